@@ -1,0 +1,225 @@
+-- The theorems of specs/Theorems.antt, under its names. Assumes nothing.
+use Prim.Native.Nat.{ℕ, zero, suc, _+_, _*_, _/_, _%_, _≤_, _<_}
+use mathlib.Core.Bool.{Bool, true, false, cond, _&&_, true≢false}
+use mathlib.Core.List.{List, [], _∷_, map}
+use mathlib.Core.Logic.{_↔_}
+use mathlib.Core.Path.{_≡_, refl, sym, _∙_, ap}
+use native.Mathlib.Omega.{arith}
+use lib.Dec.{ltb, eqb}
+use borrow.Author.Tests.{eqb-true, eq-eqb, ltb-true, ltb-false}
+use Rattle.word.specs.declared.Direction.the-variants.{Up, Down}
+use Rattle.word.specs.declared.Word.{Word}
+use Rattle.word.specs.declared.Word.the-variants.{Rst, Ramp, Wait, Set, RampVar, SetVar, BranchVar, Jne, Jl, Jge, Je, Ld, Add, Sub, AddVar, SubVar, MuxMapStart, MuxLdEnd, MuxLdStart, MuxLdAddr, MuxMapAddr, MuxClr, MuxSel, MuxMapNext, MuxLdNext, MuxMapPrev, MuxLdPrev, Branch, End, Int, Trigger, Undefined}
+use Rattle.word.specs.Profile.{Profile}
+use Rattle.word.specs.Answer.{Answer, success, refusal}
+use Rattle.word.specs.Table.{Operand, Line, line, none, lineOf, fits, every, encodeLine, encodeOf, operandsIn, operandsOf}
+use Rattle.word.specs.Decode.{choose, stepAt, addressAt, ramps, rampVars, sums, rows, reading, is, decodeOf}
+use Rattle.word.specs.Theorems.{EncodedDecodes, OneWordPerCode, SixteenBits, DecodedEncodes, UndefinedExactly, SomeOutside, here, later, Refuses13, Refuses22, AllWithin, OperandsWithin}
+use Rattle.word.proofs.Fields.{and-left, and-right, and-false, codeIn, parts, words-fit, engines-fit}
+use Rattle.word.proofs.Rows.{before, caseAt, chosen, past, read-row}
+
+-- a case of two or three operands, from what its operands are
+ap₂ : {A : Type 0} (f : ℕ → ℕ → A) {a a′ b b′ : ℕ} → (a ≡ a′) × (b ≡ b′) → f a b ≡ f a′ b′
+ap₂ f h = λ i. f (h .0 i) (h .1 i)
+
+ap₃ : {A : Type 0} (f : ℕ → ℕ → ℕ → A) {a a′ b b′ c c′ : ℕ} → (a ≡ a′) × (b ≡ b′) × (c ≡ c′) → f a b c ≡ f a′ b′ c′
+ap₃ f h = λ i. f (h .0 i) (h .1 i) (h .2 i)
+
+-- the two stretches of the table that hold waits and ramps, and the two that hold ends
+ramp-row : (p x w : ℕ) → p ≤ 1 → (512 ≤ x) × (x < 16384) × (0x4000 * p + x ≡ w) → reading w ≡ choose (w % 512) (ramps w)
+ramp-row zero x w a h = read-row w 0x4000 (omega arith)
+ramp-row (suc zero) x w a h = read-row w 0x8000 (omega arith)
+ramp-row (suc (suc p)) x w a h = absurd (omega arith)
+
+end-row : (i z w : ℕ) → i ≤ 1 → z ≤ 1 → 0xC000 + 4096 * i + 2048 * z ≡ w → reading w ≡ End i z
+unfolding reading
+end-row zero zero w a b s = rw (← s) refl
+end-row zero (suc zero) w a b s = rw (← s) refl
+end-row zero (suc (suc z)) w a b s = absurd (omega arith)
+end-row (suc zero) zero w a b s = rw (← s) refl
+end-row (suc zero) (suc zero) w a b s = rw (← s) refl
+end-row (suc zero) (suc (suc z)) w a b s = absurd (omega arith)
+end-row (suc (suc i)) z w a b s = absurd (omega arith)
+
+-- a word of no operand: computed
+no-operand : (c : ℕ) {i : Word} {w : ℕ} → Unit {0} × (c ≡ w) → reading c ≡ i → reading w ≡ i
+no-operand c h r = rw (← h .1) r
+
+-- a word's place in the table promises the case that it encodes, and its bits are the operands
+reads : (P : Profile) (i : Word) (w : ℕ) → AllWithin P (operandsIn (lineOf i)) × (codeIn (lineOf i) ≡ w) → (i ≡ Undefined → ⊥) → reading w ≡ i
+unfolding reading
+reads P Rst w h u = no-operand 0x0000 h refl
+reads P (Ramp p t Up n) w h u =
+    ramp-row p (0x200 * t + n) w (omega arith) (omega arith) ∙ chosen (ramps w) (w % 512) 256 refl (omega arith) ∙ ap₃ (λ x y z. Ramp x y Up z) (omega arith)
+reads P (Ramp p t Down n) w h u =
+    ramp-row p (0x100 + 0x200 * t + n) w (omega arith) (omega arith) ∙ chosen (ramps w) (w % 512) 512 refl (omega arith) ∙ ap₃ (λ x y z. Ramp x y Down z) (omega arith)
+reads P (Wait p t) w h u =
+    ramp-row p (0x200 * t) w (omega arith) (omega arith) ∙ chosen (ramps w) (w % 512) 1 refl (omega arith) ∙ ap₂ Wait (omega arith)
+reads P (Set n) w h u = read-row w 0x4200 (omega arith) ∙ ap Set (omega arith)
+reads P (RampVar p Up l r) w h u = read-row w 0x8460 (omega arith) ∙ chosen (rampVars w) (w % 32) 16 refl (omega arith) ∙ ap₃ (λ x y z. RampVar x Up y z) (omega arith)
+reads P (RampVar p Down l r) w h u = read-row w 0x8460 (omega arith) ∙ chosen (rampVars w) (w % 32) 32 refl (omega arith) ∙ ap₃ (λ x y z. RampVar x Down y z) (omega arith)
+reads P (SetVar v) w h u = read-row w 0x8600 (omega arith) ∙ ap SetVar (omega arith)
+reads P (BranchVar v s) w h u = read-row w 0x8800 (omega arith) ∙ ap₂ (λ x y. BranchVar x (stepAt y)) (omega arith)
+reads P (Jne k l r) w h u = read-row w 0x8A00 (omega arith) ∙ ap₃ Jne (omega arith)
+reads P (Jl k l r) w h u = read-row w 0x8C00 (omega arith) ∙ ap₃ Jl (omega arith)
+reads P (Jge k l r) w h u = read-row w 0x8E00 (omega arith) ∙ ap₃ Jge (omega arith)
+reads P (Je k l r) w h u = read-row w 0x9000 (omega arith) ∙ ap₃ Je (omega arith)
+reads P (Ld v n) w h u = read-row w 0x9C00 (omega arith) ∙ chosen (sums w) (w % 1024) 0x100 refl (omega arith) ∙ ap₂ Ld (omega arith)
+reads P (Add v n) w h u = read-row w 0x9C00 (omega arith) ∙ chosen (sums w) (w % 1024) 0x200 refl (omega arith) ∙ ap₂ Add (omega arith)
+reads P (Sub v n) w h u = read-row w 0x9C00 (omega arith) ∙ chosen (sums w) (w % 1024) 0x300 refl (omega arith) ∙ ap₂ Sub (omega arith)
+reads P (AddVar v l r) w h u = read-row w 0x9C00 (omega arith) ∙ chosen (sums w) (w % 1024) 0x310 refl (omega arith) ∙ ap₃ AddVar (omega arith)
+reads P (SubVar v l r) w h u = read-row w 0x9C00 (omega arith) ∙ chosen (sums w) (w % 1024) 0x400 refl (omega arith) ∙ ap₃ SubVar (omega arith)
+reads P (MuxMapStart a) w h u = let f = words-fit P in read-row w 0x9C80 (omega arith) ∙ ap (λ x. MuxMapStart (addressAt x)) (omega arith)
+reads P (MuxLdEnd a) w h u = let f = words-fit P in read-row w 0x9D00 (omega arith) ∙ ap (λ x. MuxLdEnd (addressAt x)) (omega arith)
+reads P (MuxLdStart a) w h u = let f = words-fit P in read-row w 0x9F00 (omega arith) ∙ ap (λ x. MuxLdStart (addressAt x)) (omega arith)
+reads P (MuxLdAddr a) w h u = let f = words-fit P in read-row w 0x9F80 (omega arith) ∙ ap (λ x. MuxLdAddr (addressAt x)) (omega arith)
+reads P (MuxMapAddr a) w h u = let f = words-fit P in read-row w 0xA000 (omega arith) ∙ ap (λ x. MuxMapAddr (addressAt x)) (omega arith)
+reads P MuxClr w h u = no-operand 0x9D00 h refl
+reads P (MuxSel k) w h u = read-row w 0x9D80 (omega arith) ∙ ap MuxSel (omega arith)
+reads P MuxMapNext w h u = no-operand 0x9D80 h refl
+reads P MuxLdNext w h u = no-operand 0x9D81 h refl
+reads P MuxMapPrev w h u = no-operand 0x9DC0 h refl
+reads P MuxLdPrev w h u = no-operand 0x9DC1 h refl
+reads P (Branch c s) w h u = read-row w 0xC000 (omega arith) ∙ ap₂ (λ x y. Branch x (stepAt y)) (omega arith)
+reads P (End i z) w h u = end-row i z w (omega arith) (omega arith) (h .1)
+reads P Int w h u = no-operand 0xC400 h refl
+reads P (Trigger m x) w h u = let f = engines-fit P in read-row w 0x10000 (omega arith) ∙ ap₂ Trigger (omega arith)
+reads P Undefined w h u = absurd (u refl)
+
+number : {r s : Answer} → r ≡ s → r .number ≡ s .number
+number e = ap (λ (r : Answer). r .number) e
+
+-- Undefined has no code
+not-undefined : (P : Profile) (i : Word) (w : ℕ) → encodeOf P i ≡ success w → i ≡ Undefined → ⊥
+not-undefined P i w e u = let n : _≡_ {A = ℕ} 13 0 = number (sym (ap (encodeOf P) u) ∙ e) in omega arith
+
+-- ---- 1
+pub encoded-decodes : EncodedDecodes
+unfolding decodeOf
+encoded-decodes P i w e = simp (reads P i w (parts P (lineOf i) w e) (not-undefined P i w e), e, eq-eqb w w refl)
+
+pub one-word-per-code : OneWordPerCode
+one-word-per-code P i j w e f = sym (encoded-decodes P i w e) ∙ encoded-decodes P j w f
+
+-- past the last row nothing is promised
+beyond : (w : ℕ) → 0x10000 ≤ w → reading w ≡ Undefined
+unfolding reading
+beyond w h = past (rows w) 0 w refl h
+
+below-16-bits : (P : Profile) (i : Word) (w : ℕ) → encodeOf P i ≡ success w → (b : Bool) → ltb w 0x10000 ≡ b → w < 0x10000
+below-16-bits P i w e true t = ltb-true w 0x10000 t
+below-16-bits P i w e false t =
+    let r = reads P i w (parts P (lineOf i) w e) (not-undefined P i w e) in
+    absurd (not-undefined P i w e (sym r ∙ beyond w (ltb-false w 0x10000 t)))
+
+pub sixteen-bits : SixteenBits
+sixteen-bits P i w e = below-16-bits P i w e (ltb w 0x10000) refl
+
+-- ---- 2
+is-success : (r : Answer) (w : ℕ) → is r w ≡ true → r ≡ success w
+is-success r w q =
+    let a = eqb-true (r .number) 0 (and-left _ _ q) in
+    let b = eqb-true (r .code) w (and-right (eqb (r .number) 0) _ q) in
+    λ k. record { number = a k; code = b k }
+
+kept : (P : Profile) (w : ℕ) (i : Word) (b : Bool) → is (encodeOf P i) w ≡ b → (cond b i Undefined ≡ Undefined → ⊥) → encodeOf P (cond b i Undefined) ≡ success w
+kept P w i true q n = is-success (encodeOf P i) w q
+kept P w i false q n = absurd (n refl)
+
+pub decoded-encodes : DecodedEncodes
+unfolding decodeOf
+decoded-encodes P w n = kept P w (reading w) (is (encodeOf P (reading w)) w) refl n
+
+-- ---- 3
+dropped : (P : Profile) (w : ℕ) (i : Word) (b : Bool) → is (encodeOf P i) w ≡ b → (encodeOf P i ≡ success w → ⊥) → cond b i Undefined ≡ Undefined
+dropped P w i true q n = absurd (n (is-success (encodeOf P i) w q))
+dropped P w i false q n = refl
+
+pub undefined-exactly : UndefinedExactly
+unfolding decodeOf
+undefined-exactly P w =
+    (λ u i e. not-undefined P i w e (sym (encoded-decodes P i w e) ∙ u),
+    λ n. dropped P w (reading w) (is (encodeOf P (reading w)) w) refl (n (reading w)))
+
+-- ---- 4
+only-undefined : (i : Word) → lineOf i ≡ none → i ≡ Undefined
+only-undefined Rst e = cc
+only-undefined (Ramp p t Up n) e = cc
+only-undefined (Ramp p t Down n) e = cc
+only-undefined (Wait p t) e = cc
+only-undefined (Set n) e = cc
+only-undefined (RampVar p Up l r) e = cc
+only-undefined (RampVar p Down l r) e = cc
+only-undefined (SetVar v) e = cc
+only-undefined (BranchVar v s) e = cc
+only-undefined (Jne k l r) e = cc
+only-undefined (Jl k l r) e = cc
+only-undefined (Jge k l r) e = cc
+only-undefined (Je k l r) e = cc
+only-undefined (Ld v n) e = cc
+only-undefined (Add v n) e = cc
+only-undefined (Sub v n) e = cc
+only-undefined (AddVar v l r) e = cc
+only-undefined (SubVar v l r) e = cc
+only-undefined (MuxMapStart a) e = cc
+only-undefined (MuxLdEnd a) e = cc
+only-undefined (MuxLdStart a) e = cc
+only-undefined (MuxLdAddr a) e = cc
+only-undefined (MuxMapAddr a) e = cc
+only-undefined MuxClr e = cc
+only-undefined (MuxSel k) e = cc
+only-undefined MuxMapNext e = cc
+only-undefined MuxLdNext e = cc
+only-undefined MuxMapPrev e = cc
+only-undefined MuxLdPrev e = cc
+only-undefined (Branch c s) e = cc
+only-undefined (End i z) e = cc
+only-undefined Int e = cc
+only-undefined (Trigger w x) e = cc
+only-undefined Undefined e = refl
+
+never-13 : (b : Bool) (w : ℕ) → cond b (success w) (refusal 22) .number ≡ 13 → ⊥
+never-13 true w e = omega arith
+never-13 false w e = omega arith
+
+no-line : (P : Profile) (l : Line) → encodeLine P l .number ≡ 13 → l ≡ none
+no-line P (line os w) e = absurd (never-13 (every (map (fits P) os)) w e)
+no-line P none e = refl
+
+pub refuses-13 : Refuses13
+refuses-13 P i = (λ e. only-undefined i (no-line P (lineOf i) e), λ u. number (ap (encodeOf P) u))
+
+first-outside : (P : Profile) (o : Operand) (os : List Operand) (b : Bool) → fits P o ≡ b → (b && every (map (fits P) os)) ≡ false
+    → (every (map (fits P) os) ≡ false → SomeOutside P os) → SomeOutside P (o ∷ os)
+first-outside P o os true f e rest = later (rest e)
+first-outside P o os false f e rest = here f
+
+some-outside : (P : Profile) (os : List Operand) → every (map (fits P) os) ≡ false → SomeOutside P os
+some-outside P [] e = absurd (true≢false e)
+some-outside P (o ∷ os) e = first-outside P o os (fits P o) refl e (some-outside P os)
+
+not-every : (P : Profile) {os : List Operand} → SomeOutside P os → every (map (fits P) os) ≡ false
+not-every P (here f) = simp f
+not-every P (later {o} s) = simp (not-every P s) (and-false (fits P o))
+
+only-22 : (P : Profile) (os : List Operand) (w : ℕ) (b : Bool) → every (map (fits P) os) ≡ b → cond b (success w) (refusal 22) .number ≡ 22 → SomeOutside P os
+only-22 P os w true f e = absurd (omega arith)
+only-22 P os w false f e = some-outside P os f
+
+refuses-22-at : (P : Profile) (l : Line) → (encodeLine P l .number ≡ 22) ↔ SomeOutside P (operandsIn l)
+refuses-22-at P (line os w) =
+    (only-22 P os w (every (map (fits P) os)) refl,
+    λ s. ap (λ (b : Bool). cond b (success w) (refusal 22) .number) (not-every P s))
+refuses-22-at P none = (λ e. absurd (omega arith), λ s. absurd (true≢false (not-every P s)))
+
+pub refuses-22 : Refuses22
+refuses-22 P i = refuses-22-at P (lineOf i)
+
+-- ---- 5
+within-kept : (P : Profile) (w : ℕ) (i : Word) (b : Bool) → is (encodeOf P i) w ≡ b → AllWithin P (operandsOf (cond b i Undefined))
+within-kept P w i true q = parts P (lineOf i) w (is-success (encodeOf P i) w q) .0
+within-kept P w i false q = tt
+
+pub operands-within : OperandsWithin
+unfolding decodeOf
+operands-within P w = within-kept P w (reading w) (is (encodeOf P (reading w)) w) refl

@@ -1,0 +1,99 @@
+-- What a word is: the case that its place in the table promises, its operands read from their bits, kept where it encodes to the word
+-- again, and otherwise Undefined. So reserved bits and gaps need no rule of their own.
+-- That this is the table read backwards, and nothing else, is what specs/Theorems.antt states; nothing here has to be believed.
+use Prim.Native.Nat.{ℕ, _/_, _%_}
+use mathlib.Core.Bool.{Bool, cond, _&&_}
+use mathlib.Core.List.{List, [], _∷_}
+use lib.Dec.{ltb, eqb}
+use Rattle.word.specs.declared.Step.{Step}
+use Rattle.word.specs.declared.Address.{Address}
+use Rattle.word.specs.declared.Direction.the-variants.{Up, Down}
+use Rattle.word.specs.declared.Word.{Word}
+use Rattle.word.specs.declared.Word.the-variants.{Rst, Ramp, Wait, Set, RampVar, SetVar, BranchVar, Jne, Jl, Jge, Je, Ld, Add, Sub, AddVar, SubVar, MuxMapStart, MuxLdEnd, MuxLdStart, MuxLdAddr, MuxMapAddr, MuxClr, MuxSel, MuxMapNext, MuxLdNext, MuxMapPrev, MuxLdPrev, Branch, End, Int, Trigger, Undefined}
+use Rattle.word.specs.Profile.{Profile}
+use Rattle.word.specs.Answer.{Answer}
+use Rattle.word.specs.Table.{encodeOf}
+
+-- A case, for keys below a limit and not below the limit of the row before.
+pub record Row : Type 0 where
+  pub limit : ℕ
+  pub case : Word
+
+infix 70 _below_
+abbrev pub _below_ : Word → ℕ → Row
+i below n = record { limit = n; case = i }
+
+-- The first row whose limit is above the key.
+abbrev pub choose : ℕ → List Row → Word
+choose k [] = Undefined
+choose k (r ∷ rs) = cond (ltb k (r .limit)) (r .case) (choose k rs)
+
+abbrev pub stepAt : ℕ → Step
+stepAt n = record { 0 = n }
+
+abbrev pub addressAt : ℕ → Address
+addressAt n = record { 0 = n }
+
+-- Wait and ramp, by the sign and the count.
+abbrev pub ramps : ℕ → List Row
+ramps w =
+    Wait (w / 16384 % 2) (w / 512 % 32) below 1 ∷
+    Ramp (w / 16384 % 2) (w / 512 % 32) Up (w % 256) below 256 ∷
+    Ramp (w / 16384 % 2) (w / 512 % 32) Down (w % 256) below 512 ∷ []
+
+-- Ramps by variables, by the sign.
+abbrev pub rampVars : ℕ → List Row
+rampVars w =
+    RampVar (w / 32 % 2) Up (w / 4 % 4) (w % 4) below 16 ∷
+    RampVar (w / 32 % 2) Down (w / 4 % 4) (w % 4) below 32 ∷ []
+
+-- Words that write a variable, by the bits under its number.
+abbrev pub sums : ℕ → List Row
+sums w =
+    Ld (w / 1024 % 4) (w % 256) below 0x100 ∷
+    Add (w / 1024 % 4) (w % 256) below 0x200 ∷
+    Sub (w / 1024 % 4) (w % 256) below 0x300 ∷
+    AddVar (w / 1024 % 4) (w / 4 % 4) (w % 4) below 0x310 ∷
+    SubVar (w / 1024 % 4) (w / 4 % 4) (w % 4) below 0x400 ∷ []
+
+abbrev pub rows : ℕ → List Row
+rows w =
+    Rst below 0x0200 ∷
+    choose (w % 512) (ramps w) below 0x4000 ∷
+    Set (w % 256) below 0x4200 ∷
+    choose (w % 512) (ramps w) below 0x8000 ∷
+    choose (w % 32) (rampVars w) below 0x8460 ∷
+    SetVar (w % 4) below 0x8600 ∷
+    BranchVar (w % 4) (stepAt (w / 4 % 128)) below 0x8800 ∷
+    Jne (w / 16 % 32) (w / 4 % 4) (w % 4) below 0x8A00 ∷
+    Jl (w / 16 % 32) (w / 4 % 4) (w % 4) below 0x8C00 ∷
+    Jge (w / 16 % 32) (w / 4 % 4) (w % 4) below 0x8E00 ∷
+    Je (w / 16 % 32) (w / 4 % 4) (w % 4) below 0x9000 ∷
+    choose (w % 1024) (sums w) below 0x9C00 ∷
+    MuxMapStart (addressAt (w % 128)) below 0x9C80 ∷
+    MuxLdEnd (addressAt (w % 128)) below 0x9D00 ∷
+    MuxClr below 0x9D01 ∷
+    MuxSel (w % 128) below 0x9D80 ∷
+    MuxMapNext below 0x9D81 ∷
+    MuxLdNext below 0x9DC0 ∷
+    MuxMapPrev below 0x9DC1 ∷
+    MuxLdPrev below 0x9E00 ∷
+    MuxLdStart (addressAt (w % 128)) below 0x9F00 ∷
+    MuxLdAddr (addressAt (w % 128)) below 0x9F80 ∷
+    MuxMapAddr (addressAt (w % 128)) below 0xA000 ∷
+    Branch (w / 128 % 64) (stepAt (w % 128)) below 0xC000 ∷
+    End (w / 4096 % 2) (w / 2048 % 2) below 0xC400 ∷
+    Int below 0xC401 ∷
+    End (w / 4096 % 2) (w / 2048 % 2) below 0xE000 ∷
+    Trigger (w / 128 % 64) (w / 2 % 64) below 0x10000 ∷ []
+
+-- The case that a word's place in the table promises.
+unfoldable pub reading : ℕ → Word
+reading w = choose w (rows w)
+
+-- Whether an answer is the word w.
+abbrev pub is : Answer → ℕ → Bool
+is r w = eqb (r .number) 0 && eqb (r .code) w
+
+unfoldable pub decodeOf : Profile → ℕ → Word
+decodeOf P w = cond (is (encodeOf P (reading w)) w) (reading w) Undefined

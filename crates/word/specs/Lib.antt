@@ -1,0 +1,7 @@
+pub mod Profile
+pub mod Field
+pub mod Answer
+pub mod Table
+pub mod Decode
+pub mod Classes
+pub mod Theorems

@@ -1,0 +1,13 @@
+-- The chips that the definitions speak of, and the limits in which they may differ.
+use Prim.Native.Nat.{ℕ}
+
+pub data Profile : Type 0 where
+  LP5523 : Profile
+
+-- Words of program memory.
+abbrev pub wordsOf : Profile → ℕ
+wordsOf LP5523 = 96
+
+-- The engines of a trigger, all together: 1, 2, 4 stand for engines 1, 2, 3.
+abbrev pub enginesOf : Profile → ℕ
+enginesOf LP5523 = 7

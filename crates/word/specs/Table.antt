@@ -1,0 +1,88 @@
+-- The encoding table: document 01, "Words", line by line and in its order.
+use Prim.Native.Nat.{ℕ, _+_, _*_}
+use mathlib.Core.Bool.{Bool, true, cond, _&&_}
+use mathlib.Core.List.{List, [], _∷_, map}
+use Rattle.word.specs.declared.Direction.the-variants.{Up, Down}
+use Rattle.word.specs.declared.Word.{Word}
+use Rattle.word.specs.declared.Word.the-variants.{Rst, Ramp, Wait, Set, RampVar, SetVar, BranchVar, Jne, Jl, Jge, Je, Ld, Add, Sub, AddVar, SubVar, MuxMapStart, MuxLdEnd, MuxLdStart, MuxLdAddr, MuxMapAddr, MuxClr, MuxSel, MuxMapNext, MuxLdNext, MuxMapPrev, MuxLdPrev, Branch, End, Int, Trigger, Undefined}
+use Rattle.word.specs.Profile.{Profile}
+use Rattle.word.specs.Field.{Field, flag, time, byte, rise, variable, target, skip, loops, step, address, output, triggers, rangesOf, inside}
+use Rattle.word.specs.Answer.{Answer, success, refusal}
+
+-- A number, and the field that it has to fit.
+pub record Operand : Type 0 where
+  pub value : ℕ
+  pub field : Field
+
+infix 70 _within_
+abbrev pub _within_ : ℕ → Field → Operand
+n within f = record { value = n; field = f }
+
+-- A line of the table: a word's operands, and its code.
+pub data Line : Type 0 where
+  line : List Operand → ℕ → Line
+  none : Line
+
+abbrev pub lineOf : Word → Line
+lineOf Rst = line [] 0x0000
+lineOf (Ramp p t Up n) = line (p within flag ∷ t within time ∷ n within rise ∷ []) (0x0000 + 0x4000 * p + 0x200 * t + n)
+lineOf (Ramp p t Down n) = line (p within flag ∷ t within time ∷ n within byte ∷ []) (0x0100 + 0x4000 * p + 0x200 * t + n)
+lineOf (Wait p t) = line (p within flag ∷ t within time ∷ []) (0x0000 + 0x4000 * p + 0x200 * t)
+lineOf (Set n) = line (n within byte ∷ []) (0x4000 + n)
+lineOf (RampVar p Up l r) = line (p within flag ∷ l within variable ∷ r within variable ∷ []) (0x8400 + 32 * p + 4 * l + r)
+lineOf (RampVar p Down l r) = line (p within flag ∷ l within variable ∷ r within variable ∷ []) (0x8410 + 32 * p + 4 * l + r)
+lineOf (SetVar v) = line (v within variable ∷ []) (0x8460 + v)
+lineOf (BranchVar v s) = line (s .0 within step ∷ v within variable ∷ []) (0x8600 + 4 * s .0 + v)
+lineOf (Jne k l r) = line (k within skip ∷ l within variable ∷ r within variable ∷ []) (0x8800 + 16 * k + 4 * l + r)
+lineOf (Jl k l r) = line (k within skip ∷ l within variable ∷ r within variable ∷ []) (0x8A00 + 16 * k + 4 * l + r)
+lineOf (Jge k l r) = line (k within skip ∷ l within variable ∷ r within variable ∷ []) (0x8C00 + 16 * k + 4 * l + r)
+lineOf (Je k l r) = line (k within skip ∷ l within variable ∷ r within variable ∷ []) (0x8E00 + 16 * k + 4 * l + r)
+lineOf (Ld v n) = line (v within target ∷ n within byte ∷ []) (0x9000 + 1024 * v + n)
+lineOf (Add v n) = line (v within target ∷ n within byte ∷ []) (0x9100 + 1024 * v + n)
+lineOf (Sub v n) = line (v within target ∷ n within byte ∷ []) (0x9200 + 1024 * v + n)
+lineOf (AddVar v l r) = line (v within target ∷ l within variable ∷ r within variable ∷ []) (0x9300 + 1024 * v + 4 * l + r)
+lineOf (SubVar v l r) = line (v within target ∷ l within variable ∷ r within variable ∷ []) (0x9310 + 1024 * v + 4 * l + r)
+lineOf (MuxMapStart a) = line (a .0 within address ∷ []) (0x9C00 + a .0)
+lineOf (MuxLdEnd a) = line (a .0 within address ∷ []) (0x9C80 + a .0)
+lineOf (MuxLdStart a) = line (a .0 within address ∷ []) (0x9E00 + a .0)
+lineOf (MuxLdAddr a) = line (a .0 within address ∷ []) (0x9F00 + a .0)
+lineOf (MuxMapAddr a) = line (a .0 within address ∷ []) (0x9F80 + a .0)
+lineOf MuxClr = line [] 0x9D00
+lineOf (MuxSel k) = line (k within output ∷ []) (0x9D00 + k)
+lineOf MuxMapNext = line [] 0x9D80
+lineOf MuxLdNext = line [] 0x9D81
+lineOf MuxMapPrev = line [] 0x9DC0
+lineOf MuxLdPrev = line [] 0x9DC1
+lineOf (Branch c s) = line (c within loops ∷ s .0 within step ∷ []) (0xA000 + 128 * c + s .0)
+lineOf (End i z) = line (i within flag ∷ z within flag ∷ []) (0xC000 + 4096 * i + 2048 * z)
+lineOf Int = line [] 0xC400
+lineOf (Trigger w x) = line (w within triggers ∷ x within triggers ∷ []) (0xE000 + 128 * w + 2 * x)
+lineOf Undefined = none
+
+-- Whether an operand fits its field.
+abbrev pub fits : Profile → Operand → Bool
+fits P o = inside (rangesOf P (o .field)) (o .value)
+
+abbrev pub every : List Bool → Bool
+every [] = true
+every (b ∷ bs) = b && every bs
+
+-- The code where every operand fits; otherwise 22.
+abbrev pub judged : List Bool → ℕ → Answer
+judged bs w = cond (every bs) (success w) (refusal 22)
+
+-- "The encoder gives 22 for an operand outside its field or a ramp up by 0, and 13 for the undefined case."
+abbrev pub encodeLine : Profile → Line → Answer
+encodeLine P (line os w) = judged (map (fits P) os) w
+encodeLine P none = refusal 13
+
+abbrev pub encodeOf : Profile → Word → Answer
+encodeOf P i = encodeLine P (lineOf i)
+
+-- The operands of a word.
+abbrev pub operandsIn : Line → List Operand
+operandsIn (line os w) = os
+operandsIn none = []
+
+abbrev pub operandsOf : Word → List Operand
+operandsOf i = operandsIn (lineOf i)
