@@ -6,7 +6,7 @@ use mathlib.Core.Path.{_≡_, refl, sym, ap, _∙_}
 use native.Mathlib.Omega.{arith}
 use lib.Dec.{leb, leb·zero}
 use borrow.Author.Tests.{leb-true, le-leb, lt-leb}
-use Rattle.word.specs.Profile.{Profile, LP5523, wordsOf, enginesOf}
+use Rattle.word.specs.Profile.{Profile, LP5523, wordsOf, engineBits}
 use Rattle.word.specs.Field.{Range, _to_, upto, inside, rangesOf}
 use Rattle.word.specs.Answer.{Answer, success, refusal}
 use Rattle.word.specs.Table.{Operand, Line, line, none, fits, every, judged, encodeLine, operandsIn}
@@ -104,5 +104,5 @@ parts P none w e = let n : _≡_ {A = ℕ} 13 0 = ap (λ (r : Answer). r .number
 pub words-fit : (P : Profile) → wordsOf P ≤ 128
 words-fit LP5523 = omega arith
 
-pub engines-fit : (P : Profile) → enginesOf P ≤ 31
+pub engines-fit : (P : Profile) → engineBits P ≤ 31
 engines-fit LP5523 = omega arith

@@ -13,7 +13,7 @@ use Rattle.word.specs.declared.Word.the-variants.{Rst, Ramp, Wait, Set, 
 use Rattle.word.specs.Profile.{Profile}
 use Rattle.word.specs.Answer.{Answer, success, refusal}
 use Rattle.word.specs.Table.{Operand, Line, line, none, lineOf, fits, every, encodeLine, encodeOf, operandsIn, operandsOf}
-use Rattle.word.specs.Decode.{choose, stepAt, addressAt, ramps, rampVars, sums, rows, reading, is, decodeOf}
+use Rattle.word.specs.Decode.{choose, stepAt, addressAt, ramps, rampVars, sums, rows, reading, isSuccess, decodeOf}
 use Rattle.word.specs.Theorems.{EncodedDecodes, OneWordPerCode, SixteenBits, DecodedEncodes, UndefinedExactly, SomeOutside, here, later, Refuses13, Refuses22, AllWithin, OperandsWithin}
 use Rattle.word.proofs.Fields.{and-left, and-right, and-false, codeIn, parts, words-fit, engines-fit}
 use Rattle.word.proofs.Rows.{before, caseAt, chosen, past, read-row}
@@ -116,30 +116,31 @@ pub sixteen-bits : SixteenBits
 sixteen-bits P i w e = below-16-bits P i w e (ltb w 0x10000) refl
 
 -- ---- 2
-is-success : (r : Answer) (w : ℕ) → is r w ≡ true → r ≡ success w
+is-success : (r : Answer) (w : ℕ) → isSuccess r w ≡ true → r ≡ success w
 is-success r w q =
     let a = eqb-true (r .number) 0 (and-left _ _ q) in
     let b = eqb-true (r .code) w (and-right (eqb (r .number) 0) _ q) in
     λ k. record { number = a k; code = b k }
 
-kept : (P : Profile) (w : ℕ) (i : Word) (b : Bool) → is (encodeOf P i) w ≡ b → (cond b i Undefined ≡ Undefined → ⊥) → encodeOf P (cond b i Undefined) ≡ success w
+kept : (P : Profile) (w : ℕ) (i : Word) (b : Bool) → isSuccess (encodeOf P i) w ≡ b → (cond b i Undefined ≡ Undefined → ⊥) → encodeOf P (cond b i Undefined) ≡ success w
 kept P w i true q n = is-success (encodeOf P i) w q
 kept P w i false q n = absurd (n refl)
 
 pub decoded-encodes : DecodedEncodes
 unfolding decodeOf
-decoded-encodes P w n = kept P w (reading w) (is (encodeOf P (reading w)) w) refl n
+decoded-encodes P w n = kept P w (reading w) (isSuccess (encodeOf P (reading w)) w) refl n
 
 -- ---- 3
-dropped : (P : Profile) (w : ℕ) (i : Word) (b : Bool) → is (encodeOf P i) w ≡ b → (encodeOf P i ≡ success w → ⊥) → cond b i Undefined ≡ Undefined
+dropped : (P : Profile) (w : ℕ) (i : Word) (b : Bool) → isSuccess (encodeOf P i) w ≡ b → (encodeOf P i ≡ success w → ⊥) → cond b i Undefined ≡ Undefined
 dropped P w i true q n = absurd (n (is-success (encodeOf P i) w q))
 dropped P w i false q n = refl
 
 pub undefined-exactly : UndefinedExactly
 unfolding decodeOf
-undefined-exactly P w =
-    (λ u i e. not-undefined P i w e (sym (encoded-decodes P i w e) ∙ u),
-    λ n. dropped P w (reading w) (is (encodeOf P (reading w)) w) refl (n (reading w)))
+undefined-exactly P w = (
+  λ u i e. not-undefined P i w e (sym (encoded-decodes P i w e) ∙ u),
+  λ n. dropped P w (reading w) (isSuccess (encodeOf P (reading w)) w) refl (n (reading w)),
+)
 
 -- ---- 4
 only-undefined : (i : Word) → lineOf i ≡ none → i ≡ Undefined
@@ -207,19 +208,20 @@ only-22 P os w true f e = absurd (omega arith)
 only-22 P os w false f e = some-outside P os f
 
 refuses-22-at : (P : Profile) (l : Line) → (encodeLine P l .number ≡ 22) ↔ SomeOutside P (operandsIn l)
-refuses-22-at P (line os w) =
-    (only-22 P os w (every (map (fits P) os)) refl,
-    λ s. ap (λ (b : Bool). cond b (success w) (refusal 22) .number) (not-every P s))
+refuses-22-at P (line os w) = (
+  only-22 P os w (every (map (fits P) os)) refl,
+  λ s. ap (λ (b : Bool). cond b (success w) (refusal 22) .number) (not-every P s),
+)
 refuses-22-at P none = (λ e. absurd (omega arith), λ s. absurd (true≢false (not-every P s)))
 
 pub refuses-22 : Refuses22
 refuses-22 P i = refuses-22-at P (lineOf i)
 
 -- ---- 5
-within-kept : (P : Profile) (w : ℕ) (i : Word) (b : Bool) → is (encodeOf P i) w ≡ b → AllWithin P (operandsOf (cond b i Undefined))
+within-kept : (P : Profile) (w : ℕ) (i : Word) (b : Bool) → isSuccess (encodeOf P i) w ≡ b → AllWithin P (operandsOf (cond b i Undefined))
 within-kept P w i true q = parts P (lineOf i) w (is-success (encodeOf P i) w q) .0
 within-kept P w i false q = tt
 
 pub operands-within : OperandsWithin
 unfolding decodeOf
-operands-within P w = within-kept P w (reading w) (is (encodeOf P (reading w)) w) refl
+operands-within P w = within-kept P w (reading w) (isSuccess (encodeOf P (reading w)) w) refl

@@ -92,8 +92,8 @@ unfoldable pub reading : ℕ → Word
 reading w = choose w (rows w)
 
 -- Whether an answer is the word w.
-abbrev pub is : Answer → ℕ → Bool
-is r w = eqb (r .number) 0 && eqb (r .code) w
+abbrev pub isSuccess : Answer → ℕ → Bool
+isSuccess r w = eqb (r .number) 0 && eqb (r .code) w
 
 unfoldable pub decodeOf : Profile → ℕ → Word
-decodeOf P w = cond (is (encodeOf P (reading w)) w) (reading w) Undefined
+decodeOf P w = cond (isSuccess (encodeOf P (reading w)) w) (reading w) Undefined

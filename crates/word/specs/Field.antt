@@ -3,7 +3,7 @@ use Prim.Native.Nat.{ℕ, _+_, _-_}
 use mathlib.Core.Bool.{Bool, false, _&&_, _||_}
 use mathlib.Core.List.{List, [], _∷_}
 use lib.Dec.{leb}
-use Rattle.word.specs.Profile.{Profile, wordsOf, enginesOf}
+use Rattle.word.specs.Profile.{Profile, wordsOf, engineBits}
 
 -- The numbers from `least` to `most`, both included.
 pub record Range : Type 0 where
@@ -49,4 +49,4 @@ rangesOf P address = upto (wordsOf P - 1)
 -- k of mux-sel: D1..D9, or the GPO
 rangesOf P output = 1 to 9 ∷ 16 to 16 ∷ []
 -- w and x: engines, with or without the pin, which is 32
-rangesOf P triggers = 0 to enginesOf P ∷ 32 to (32 + enginesOf P) ∷ []
+rangesOf P triggers = 0 to engineBits P ∷ 32 to (32 + engineBits P) ∷ []

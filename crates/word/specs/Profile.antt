@@ -8,6 +8,6 @@ pub data Profile : Type 0 where
 abbrev pub wordsOf : Profile → ℕ
 wordsOf LP5523 = 96
 
--- The engines of a trigger, all together: 1, 2, 4 stand for engines 1, 2, 3.
-abbrev pub enginesOf : Profile → ℕ
-enginesOf LP5523 = 7
+-- All engines of a trigger together: 1, 2, 4 stand for engines 1, 2, 3.
+abbrev pub engineBits : Profile → ℕ
+engineBits LP5523 = 7

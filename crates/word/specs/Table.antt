@@ -9,7 +9,7 @@ use Rattle.word.specs.Profile.{Profile}
 use Rattle.word.specs.Field.{Field, flag, time, byte, rise, variable, target, skip, loops, step, address, output, triggers, rangesOf, inside}
 use Rattle.word.specs.Answer.{Answer, success, refusal}
 
--- A number, and the field that it has to fit.
+-- A number, and the field that it has to fit: `n within byte`.
 pub record Operand : Type 0 where
   pub value : ℕ
   pub field : Field
@@ -25,12 +25,16 @@ pub data Line : Type 0 where
 
 abbrev pub lineOf : Word → Line
 lineOf Rst = line [] 0x0000
+-- bit 14 p, bits 13:9 t, bit 8 sign, bits 7:0 n; down if sign is 1
 lineOf (Ramp p t Up n) = line (p within flag ∷ t within time ∷ n within rise ∷ []) (0x0000 + 0x4000 * p + 0x200 * t + n)
 lineOf (Ramp p t Down n) = line (p within flag ∷ t within time ∷ n within byte ∷ []) (0x0100 + 0x4000 * p + 0x200 * t + n)
+-- the same, sign 0, n 0
 lineOf (Wait p t) = line (p within flag ∷ t within time ∷ []) (0x0000 + 0x4000 * p + 0x200 * t)
 lineOf (Set n) = line (n within byte ∷ []) (0x4000 + n)
+-- 8400+32p+16sign+4l+r
 lineOf (RampVar p Up l r) = line (p within flag ∷ l within variable ∷ r within variable ∷ []) (0x8400 + 32 * p + 4 * l + r)
-lineOf (RampVar p Down l r) = line (p within flag ∷ l within variable ∷ r within variable ∷ []) (0x8410 + 32 * p + 4 * l + r)
+lineOf (RampVar p Down l r) = line (p within flag ∷ l within variable ∷ r within variable ∷ []) (0x8400 + 16 + 32 * p + 4 * l + r)
+-- the rest: a base, plus the fields
 lineOf (SetVar v) = line (v within variable ∷ []) (0x8460 + v)
 lineOf (BranchVar v s) = line (s .0 within step ∷ v within variable ∷ []) (0x8600 + 4 * s .0 + v)
 lineOf (Jne k l r) = line (k within skip ∷ l within variable ∷ r within variable ∷ []) (0x8800 + 16 * k + 4 * l + r)
@@ -57,6 +61,7 @@ lineOf (Branch c s) = line (c within loops ∷ s .0 within step ∷ []) (0xA000 
 lineOf (End i z) = line (i within flag ∷ z within flag ∷ []) (0xC000 + 4096 * i + 2048 * z)
 lineOf Int = line [] 0xC400
 lineOf (Trigger w x) = line (w within triggers ∷ x within triggers ∷ []) (0xE000 + 128 * w + 2 * x)
+-- "Every other word is undefined."
 lineOf Undefined = none
 
 -- Whether an operand fits its field.

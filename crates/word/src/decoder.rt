@@ -177,18 +177,6 @@ fn from_9d(code: u16) -> Word
     Word::MuxLdPrev
 }
 
-// Words that begin with A or B.
-fn from_a(code: u16) -> Word
-    requires { ⌜ (0xA000 ≤ code) × (code < 0xC000) ⌝ }
-    ensures { λ r. ⌜ r ≡ reading code ⌝ }
-{
-    let step = Step(code % 128);
-    Word::Branch {
-        loops: code / 128 % 64,
-        step,
-    }
-}
-
 // Words that begin with C or D.
 fn from_c(code: u16) -> Word
     requires { ⌜ (0xC000 ≤ code) × (code < 0xE000) ⌝ }
@@ -213,7 +201,10 @@ fn read(code: u16) -> Word
         0..=7 => from_0(code),
         8 => from_8(code),
         9 => from_9(code),
-        10..=11 => from_a(code),
+        10..=11 => Word::Branch {
+            loops: code / 128 % 64,
+            step: Step(code % 128),
+        },
         12..=13 => from_c(code),
         _ => Word::Trigger {
             wait: code / 128 % 64,
@@ -228,13 +219,7 @@ pub fn decode(code: u16) -> Word
 {
     let word = read(code);
     match encode(word) {
-        Coded::Code(again) => {
-            if again == code {
-                word
-            } else {
-                Word::Undefined
-            }
-        }
+        Coded::Code(again) => { if again == code { word } else { Word::Undefined } }
         Coded::OutsideField => Word::Undefined,
         Coded::UndefinedWord => Word::Undefined,
     }

@@ -1,5 +1,4 @@
 // From an instruction word to its 16 bits. A number that does not fit its field is refused.
-use crate::Address;
 use crate::Coded;
 use crate::Direction;
 use crate::Word;
@@ -106,38 +105,6 @@ fn ramp_var(prescale: u16, dir: Direction, time: u16, count: u16) -> Coded
     }
 }
 
-// A jump's word: base is its operation's.
-fn jump(base: u16, skip: u16, left: u16, right: u16) -> Coded
-    requires { ⌜ base < 65000 ⌝ }
-    ensures { λ r. ⌜ answerOf r ≡ judged (inside (upto 31) skip ∷ inside (upto 3) left ∷ inside (upto 3) right ∷ []) (base + 16 * skip + 4 * left + right) ⌝ }
-{
-    three(base, 16, skip, 31, 4, left, 3, right, 3)
-}
-
-// A word that writes a variable, from a number.
-fn put(base: u16, to: u16, value: u16) -> Coded
-    requires { ⌜ base < 60000 ⌝ }
-    ensures { λ r. ⌜ answerOf r ≡ judged (inside (upto 2) to ∷ inside (upto 255) value ∷ []) (base + 1024 * to + value) ⌝ }
-{
-    two(base, 1024, to, 2, value, 255)
-}
-
-// A word that writes a variable, from two variables.
-fn put_var(base: u16, to: u16, left: u16, right: u16) -> Coded
-    requires { ⌜ base < 60000 ⌝ }
-    ensures { λ r. ⌜ answerOf r ≡ judged (inside (upto 2) to ∷ inside (upto 3) left ∷ inside (upto 3) right ∷ []) (base + 1024 * to + 4 * left + right) ⌝ }
-{
-    three(base, 1024, to, 2, 4, left, 3, right, 3)
-}
-
-// A word that names a row of the mapping table.
-fn mux(base: u16, address: Address) -> Coded
-    requires { ⌜ base < 65000 ⌝ }
-    ensures { λ r. ⌜ answerOf r ≡ judged (inside (upto 95) (address .0) ∷ []) (base + address .0) ⌝ }
-{
-    one(base, address.0, 95)
-}
-
 fn mux_sel(output: u16) -> Coded
     ensures { λ r. ⌜ answerOf r ≡ encodeOf LP5523 (Word.MuxSel output) ⌝ }
 {
@@ -199,20 +166,20 @@ pub fn encode(word: Word) -> Coded
         } => ramp_var(prescale, dir, time, count),
         Word::SetVar { from } => one(0x8460, from, 3),
         Word::BranchVar { loops, step } => two(0x8600, 4, step.0, 127, loops, 3),
-        Word::Jne { skip, left, right } => jump(0x8800, skip, left, right),
-        Word::Jl { skip, left, right } => jump(0x8A00, skip, left, right),
-        Word::Jge { skip, left, right } => jump(0x8C00, skip, left, right),
-        Word::Je { skip, left, right } => jump(0x8E00, skip, left, right),
-        Word::Ld { to, value } => put(0x9000, to, value),
-        Word::Add { to, value } => put(0x9100, to, value),
-        Word::Sub { to, value } => put(0x9200, to, value),
-        Word::AddVar { to, left, right } => put_var(0x9300, to, left, right),
-        Word::SubVar { to, left, right } => put_var(0x9310, to, left, right),
-        Word::MuxMapStart { address } => mux(0x9C00, address),
-        Word::MuxLdEnd { address } => mux(0x9C80, address),
-        Word::MuxLdStart { address } => mux(0x9E00, address),
-        Word::MuxLdAddr { address } => mux(0x9F00, address),
-        Word::MuxMapAddr { address } => mux(0x9F80, address),
+        Word::Jne { skip, left, right } => three(0x8800, 16, skip, 31, 4, left, 3, right, 3),
+        Word::Jl { skip, left, right } => three(0x8A00, 16, skip, 31, 4, left, 3, right, 3),
+        Word::Jge { skip, left, right } => three(0x8C00, 16, skip, 31, 4, left, 3, right, 3),
+        Word::Je { skip, left, right } => three(0x8E00, 16, skip, 31, 4, left, 3, right, 3),
+        Word::Ld { to, value } => two(0x9000, 1024, to, 2, value, 255),
+        Word::Add { to, value } => two(0x9100, 1024, to, 2, value, 255),
+        Word::Sub { to, value } => two(0x9200, 1024, to, 2, value, 255),
+        Word::AddVar { to, left, right } => three(0x9300, 1024, to, 2, 4, left, 3, right, 3),
+        Word::SubVar { to, left, right } => three(0x9310, 1024, to, 2, 4, left, 3, right, 3),
+        Word::MuxMapStart { address } => one(0x9C00, address.0, 95),
+        Word::MuxLdEnd { address } => one(0x9C80, address.0, 95),
+        Word::MuxLdStart { address } => one(0x9E00, address.0, 95),
+        Word::MuxLdAddr { address } => one(0x9F00, address.0, 95),
+        Word::MuxMapAddr { address } => one(0x9F80, address.0, 95),
         Word::MuxClr => Coded::Code(0x9D00),
         Word::MuxSel { output } => mux_sel(output),
         Word::MuxMapNext => Coded::Code(0x9D80),
@@ -224,16 +191,5 @@ pub fn encode(word: Word) -> Coded
         Word::Int => Coded::Code(0xC400),
         Word::Trigger { wait, send } => trigger(wait, send),
         Word::Undefined => Coded::UndefinedWord,
-    }
-}
-
-// The number that document 01 gives to an answer: zero for success.
-pub fn number_of(answer: Coded) -> u16
-    ensures { λ r. ⌜ r ≡ answerOf answer .number ⌝ }
-{
-    match answer {
-        Coded::Code(_) => 0,
-        Coded::OutsideField => 22,
-        Coded::UndefinedWord => 13,
     }
 }

@@ -1,14 +1,10 @@
 // The instruction words of the LP5523: what a word may say, and the answers about it.
 // The rules are document 01's, section "Words"; specs/Table.antt is its table.
-mod classes;
 mod decoder;
 mod encoder;
 
-pub use classes::flow_of;
-pub use classes::table_use_of;
 pub use decoder::decode;
 pub use encoder::encode;
-pub use encoder::number_of;
 
 // A step counts from the engine's start. The target of a branch is a step.
 pub struct Step(pub u16);

@@ -11,12 +11,12 @@ use Rattle.word.specs.declared.Word.the-variants.{Undefined}
 use Rattle.word.specs.Profile.{LP5523}
 use Rattle.word.specs.Answer.{answerOf}
 use Rattle.word.specs.Table.{encodeOf}
-use Rattle.word.specs.Decode.{reading, is, decodeOf}
+use Rattle.word.specs.Decode.{reading, isSuccess, decodeOf}
 use Rattle.word.proofs.decoder.decode.Statement.{statement}
 use Rattle.word.proofs.decoder.decode.Tie as tie
 
 -- what is kept, by what the encoder answered
-kept : (w : ℕ) (i : Word) (o : Coded) → i ≡ reading w → answerOf o ≡ encodeOf LP5523 i → cond (is (answerOf o) w) i Undefined ≡ decodeOf LP5523 w
+kept : (w : ℕ) (i : Word) (o : Coded) → i ≡ reading w → answerOf o ≡ encodeOf LP5523 i → cond (isSuccess (answerOf o) w) i Undefined ≡ decodeOf LP5523 w
 unfolding decodeOf
 kept w i o p q = simp (q, p)
 

@@ -1,17 +1,17 @@
--- `word::classes::table_use_of` meets its contract: each arm knows its case, and the last one that the word is none of the cases before it. Assumes nothing.
+-- `flow::table_use_of` meets its contract: each arm knows its case, and the last one that the word is none of the cases before it. Assumes nothing.
 use Prim.Native.Nat.{ℕ}
 use mathlib.Core.List.{List, [], _∷_}
 use mathlib.Core.Path.{_≡_, refl, sym, ap}
 use borrow.Author.Needs.{needs}
 use types.Run.{OneOf, miss}
 use denote.Enum.Declared.{tagOf}
 use Rattle.word.proofs.Word.{the-type}
 use Rattle.word.specs.declared.TableUse.the-variants.{Nothing}
 use Rattle.word.specs.declared.Word.{Word}
 use Rattle.word.specs.declared.Word.the-variants.{Rst, Ramp, Wait, Set, RampVar, SetVar, BranchVar, Jne, Jl, Jge, Je, Ld, Add, Sub, AddVar, SubVar, MuxMapStart, MuxLdEnd, MuxLdStart, MuxLdAddr, MuxMapAddr, MuxClr, MuxSel, MuxMapNext, MuxLdNext, MuxMapPrev, MuxLdPrev, Branch, End, Int, Trigger, Undefined}
 use Rattle.word.specs.Classes.{tableUseOf}
-use Rattle.word.proofs.classes.table_use_of.Statement.{statement}
-use Rattle.word.proofs.classes.table_use_of.Tie as tie
+use Rattle.flow.proofs.table_use_of.Statement.{statement}
+use Rattle.flow.proofs.table_use_of.Tie as tie
 
 -- the variants that no arm names
 abbrev keys : List ℕ

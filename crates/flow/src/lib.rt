@@ -1,10 +1,11 @@
-// What later rules ask of a word: where it goes on, and what it does to the mapping table's pointers.
-use crate::Flow;
-use crate::TableUse;
-use crate::Test;
-use crate::Word;
+// What the rules ask of a word: where it lets the engine go on, and what it does to the pointers of
+// the mapping table. The definitions are crate word's, in specs/Classes.antt.
+use word::Flow;
+use word::TableUse;
+use word::Test;
+use word::Word;
 ghost use mathlib.Core.Path.{_≡_};
 ghost use Rattle.word.specs.Classes.{flowOf, tableUseOf};
 
 pub fn flow_of(word: Word) -> Flow
     ensures { λ r. ⌜ r ≡ flowOf word ⌝ }

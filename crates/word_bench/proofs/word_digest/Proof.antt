@@ -1,0 +1,16 @@
+-- `word_bench::word_digest` meets its contract: what each call ensures, one after the other. Assumes nothing.
+use mathlib.Core.Path.{_≡_, _∙_, ap}
+use borrow.Author.Needs.{needs}
+use Rattle.parts.specs.Parts.{partsOf}
+use Rattle.word_bench.specs.Digest.{digestOf}
+use Rattle.word_bench.proofs.word_digest.Statement.{statement}
+use Rattle.word_bench.proofs.word_digest.Tie as tie
+
+pub word-digest-spec : {M : Type 1} → statement M
+word-digest-spec =
+    tie.close
+    (tie.spec
+    (search needs)
+    (search needs)
+    (search needs)
+    (λ c. c .digest .ensures ∙ ap digestOf (c .before .parts-of .ensures ∙ ap partsOf (c .before .before .decode .ensures))))

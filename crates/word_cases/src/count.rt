@@ -1,0 +1,67 @@
+// All 65,536 codes: how many are defined, how many encode back to themselves, and how many there
+// are of each operation.
+use super::print::KINDS;
+use super::print::print_kind;
+use parts::parts_of;
+use word::Coded;
+use word::Word;
+
+// Questions of a code: up to UNDEFINED, whether it is of that operation.
+const UNDEFINED: u16 = 31;
+
+const IS_DEFINED: u16 = 32;
+
+const ENCODES_BACK: u16 = 33;
+
+fn encodes_to(w: Word, code: u16) -> bool {
+    if let Coded::Code(again) = word::encode(w) {
+        again == code
+    } else {
+        false
+    }
+}
+
+fn holds(question: u16, code: u16) -> bool {
+    let w = word::decode(code);
+    if question == ENCODES_BACK {
+        return encodes_to(w, code);
+    }
+    let op = parts_of(w).op;
+    if question == IS_DEFINED {
+        return op < UNDEFINED;
+    }
+    op == question
+}
+
+// Of how many codes it holds.
+fn count(question: u16) -> u64 {
+    let mut n: u64 = 0;
+    for code in 0..=65535 {
+        if holds(question, code) {
+            n += 1;
+        }
+    }
+    n
+}
+
+fn count_line(kind: u16) {
+    print_kind(kind);
+    io::write_all(1, b"=");
+    io::print_decimal(1, count(kind));
+    io::write_all(1, b"\n");
+}
+
+fn count_lines() {
+    for kind in 0..KINDS {
+        count_line(kind);
+    }
+}
+
+pub fn all_codes() {
+    io::write_all(1, b"defined=");
+    io::print_decimal(1, count(IS_DEFINED));
+    io::write_all(1, b" encoded-back=");
+    io::print_decimal(1, count(ENCODES_BACK));
+    io::write_all(1, b"\n");
+    count_lines();
+}
