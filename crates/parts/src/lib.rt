@@ -1,9 +1,14 @@
 // A word as plain numbers: the place of its operation in document 01's table, and its operands in
 // the order of its sheet line.
+use word::ArithOp;
+use word::ArithVarOp;
 use word::Direction;
+use word::JumpOp;
+use word::MuxAtOp;
+use word::MuxMoveOp;
 use word::Word;
 ghost use mathlib.Core.Path.{_≡_};
-ghost use Rattle.parts.specs.Parts.{parts, signOf, partsOf};
+ghost use Rattle.parts.specs.Parts.{parts, signOf, jumpPlace, arithPlace, arithVarPlace, muxAtPlace, muxMovePlace, partsOf};
 
 // Operands that a word does not have are 0.
 pub struct Parts {
@@ -20,6 +25,59 @@ fn sign_of(dir: Direction) -> u16
     match dir {
         Direction::Up => 0,
         Direction::Down => 1,
+    }
+}
+
+fn jump_place(op: JumpOp) -> u16
+    ensures { λ r. ⌜ r ≡ jumpPlace op ⌝ }
+{
+    match op {
+        JumpOp::Jne => 7,
+        JumpOp::Jl => 8,
+        JumpOp::Jge => 9,
+        JumpOp::Je => 10,
+    }
+}
+
+fn arith_place(op: ArithOp) -> u16
+    ensures { λ r. ⌜ r ≡ arithPlace op ⌝ }
+{
+    match op {
+        ArithOp::Ld => 11,
+        ArithOp::Add => 12,
+        ArithOp::Sub => 13,
+    }
+}
+
+fn arith_var_place(op: ArithVarOp) -> u16
+    ensures { λ r. ⌜ r ≡ arithVarPlace op ⌝ }
+{
+    match op {
+        ArithVarOp::AddVar => 14,
+        ArithVarOp::SubVar => 15,
+    }
+}
+
+fn mux_at_place(op: MuxAtOp) -> u16
+    ensures { λ r. ⌜ r ≡ muxAtPlace op ⌝ }
+{
+    match op {
+        MuxAtOp::MuxMapStart => 16,
+        MuxAtOp::MuxLdEnd => 17,
+        MuxAtOp::MuxLdStart => 18,
+        MuxAtOp::MuxLdAddr => 19,
+        MuxAtOp::MuxMapAddr => 20,
+    }
+}
+
+fn mux_move_place(op: MuxMoveOp) -> u16
+    ensures { λ r. ⌜ r ≡ muxMovePlace op ⌝ }
+{
+    match op {
+        MuxMoveOp::MuxMapNext => 23,
+        MuxMoveOp::MuxLdNext => 24,
+        MuxMoveOp::MuxMapPrev => 25,
+        MuxMoveOp::MuxLdPrev => 26,
     }
 }
 
@@ -50,26 +108,23 @@ pub fn parts_of(word: Word) -> Parts
         } => with_operands(4, prescale, sign_of(dir), time, count),
         Word::SetVar { from } => with_operands(5, from, 0, 0, 0),
         Word::BranchVar { loops, step } => with_operands(6, loops, step.0, 0, 0),
-        Word::Jne { skip, left, right } => with_operands(7, skip, left, right, 0),
-        Word::Jl { skip, left, right } => with_operands(8, skip, left, right, 0),
-        Word::Jge { skip, left, right } => with_operands(9, skip, left, right, 0),
-        Word::Je { skip, left, right } => with_operands(10, skip, left, right, 0),
-        Word::Ld { to, value } => with_operands(11, to, value, 0, 0),
-        Word::Add { to, value } => with_operands(12, to, value, 0, 0),
-        Word::Sub { to, value } => with_operands(13, to, value, 0, 0),
-        Word::AddVar { to, left, right } => with_operands(14, to, left, right, 0),
-        Word::SubVar { to, left, right } => with_operands(15, to, left, right, 0),
-        Word::MuxMapStart { address } => with_operands(16, address.0, 0, 0, 0),
-        Word::MuxLdEnd { address } => with_operands(17, address.0, 0, 0, 0),
-        Word::MuxLdStart { address } => with_operands(18, address.0, 0, 0, 0),
-        Word::MuxLdAddr { address } => with_operands(19, address.0, 0, 0, 0),
-        Word::MuxMapAddr { address } => with_operands(20, address.0, 0, 0, 0),
+        Word::Jump {
+            op,
+            skip,
+            left,
+            right,
+        } => with_operands(jump_place(op), skip, left, right, 0),
+        Word::Arith { op, to, value } => with_operands(arith_place(op), to, value, 0, 0),
+        Word::ArithVar {
+            op,
+            to,
+            left,
+            right,
+        } => with_operands(arith_var_place(op), to, left, right, 0),
+        Word::MuxAt { op, address } => with_operands(mux_at_place(op), address.0, 0, 0, 0),
         Word::MuxClr => with_operands(21, 0, 0, 0, 0),
         Word::MuxSel { output } => with_operands(22, output, 0, 0, 0),
-        Word::MuxMapNext => with_operands(23, 0, 0, 0, 0),
-        Word::MuxLdNext => with_operands(24, 0, 0, 0, 0),
-        Word::MuxMapPrev => with_operands(25, 0, 0, 0, 0),
-        Word::MuxLdPrev => with_operands(26, 0, 0, 0, 0),
+        Word::MuxMove { op } => with_operands(mux_move_place(op), 0, 0, 0, 0),
         Word::Branch { loops, step } => with_operands(27, loops, step.0, 0, 0),
         Word::End { int, reset } => with_operands(28, int, reset, 0, 0),
         Word::Int => with_operands(29, 0, 0, 0, 0),

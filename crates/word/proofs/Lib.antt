@@ -1,3 +1,4 @@
 pub mod Fields
+pub mod Bases
 pub mod Rows
 pub mod Theorems

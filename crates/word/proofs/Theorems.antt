@@ -8,8 +8,13 @@ use native.Mathlib.Omega.{arith}
 use lib.Dec.{ltb, eqb}
 use borrow.Author.Tests.{eqb-true, eq-eqb, ltb-true, ltb-false}
 use Rattle.word.specs.declared.Direction.the-variants.{Up, Down}
+use Rattle.word.specs.declared.JumpOp.the-variants.{Jne, Jl, Jge, Je}
+use Rattle.word.specs.declared.ArithOp.the-variants.{Ld, Add, Sub}
+use Rattle.word.specs.declared.ArithVarOp.the-variants.{AddVar, SubVar}
+use Rattle.word.specs.declared.MuxAtOp.the-variants.{MuxMapStart, MuxLdEnd, MuxLdStart, MuxLdAddr, MuxMapAddr}
+use Rattle.word.specs.declared.MuxMoveOp.the-variants.{MuxMapNext, MuxLdNext, MuxMapPrev, MuxLdPrev}
 use Rattle.word.specs.declared.Word.{Word}
-use Rattle.word.specs.declared.Word.the-variants.{Rst, Ramp, Wait, Set, RampVar, SetVar, BranchVar, Jne, Jl, Jge, Je, Ld, Add, Sub, AddVar, SubVar, MuxMapStart, MuxLdEnd, MuxLdStart, MuxLdAddr, MuxMapAddr, MuxClr, MuxSel, MuxMapNext, MuxLdNext, MuxMapPrev, MuxLdPrev, Branch, End, Int, Trigger, Undefined}
+use Rattle.word.specs.declared.Word.the-variants.{Rst, Ramp, Wait, Set, RampVar, SetVar, BranchVar, Jump, Arith, ArithVar, MuxAt, MuxClr, MuxSel, MuxMove, Branch, End, Int, Trigger, Undefined}
 use Rattle.word.specs.Profile.{Profile}
 use Rattle.word.specs.Answer.{Answer, success, refusal}
 use Rattle.word.specs.Table.{Operand, Line, line, none, lineOf, fits, every, encodeLine, encodeOf, operandsIn, operandsOf}
@@ -60,26 +65,26 @@ reads P (RampVar p Up l r) w h u = read-row w 0x8460 (omega arith) ∙ chosen (r
 reads P (RampVar p Down l r) w h u = read-row w 0x8460 (omega arith) ∙ chosen (rampVars w) (w % 32) 32 refl (omega arith) ∙ ap₃ (λ x y z. RampVar x Down y z) (omega arith)
 reads P (SetVar v) w h u = read-row w 0x8600 (omega arith) ∙ ap SetVar (omega arith)
 reads P (BranchVar v s) w h u = read-row w 0x8800 (omega arith) ∙ ap₂ (λ x y. BranchVar x (stepAt y)) (omega arith)
-reads P (Jne k l r) w h u = read-row w 0x8A00 (omega arith) ∙ ap₃ Jne (omega arith)
-reads P (Jl k l r) w h u = read-row w 0x8C00 (omega arith) ∙ ap₃ Jl (omega arith)
-reads P (Jge k l r) w h u = read-row w 0x8E00 (omega arith) ∙ ap₃ Jge (omega arith)
-reads P (Je k l r) w h u = read-row w 0x9000 (omega arith) ∙ ap₃ Je (omega arith)
-reads P (Ld v n) w h u = read-row w 0x9C00 (omega arith) ∙ chosen (sums w) (w % 1024) 0x100 refl (omega arith) ∙ ap₂ Ld (omega arith)
-reads P (Add v n) w h u = read-row w 0x9C00 (omega arith) ∙ chosen (sums w) (w % 1024) 0x200 refl (omega arith) ∙ ap₂ Add (omega arith)
-reads P (Sub v n) w h u = read-row w 0x9C00 (omega arith) ∙ chosen (sums w) (w % 1024) 0x300 refl (omega arith) ∙ ap₂ Sub (omega arith)
-reads P (AddVar v l r) w h u = read-row w 0x9C00 (omega arith) ∙ chosen (sums w) (w % 1024) 0x310 refl (omega arith) ∙ ap₃ AddVar (omega arith)
-reads P (SubVar v l r) w h u = read-row w 0x9C00 (omega arith) ∙ chosen (sums w) (w % 1024) 0x400 refl (omega arith) ∙ ap₃ SubVar (omega arith)
-reads P (MuxMapStart a) w h u = let f = words-fit P in read-row w 0x9C80 (omega arith) ∙ ap (λ x. MuxMapStart (addressAt x)) (omega arith)
-reads P (MuxLdEnd a) w h u = let f = words-fit P in read-row w 0x9D00 (omega arith) ∙ ap (λ x. MuxLdEnd (addressAt x)) (omega arith)
-reads P (MuxLdStart a) w h u = let f = words-fit P in read-row w 0x9F00 (omega arith) ∙ ap (λ x. MuxLdStart (addressAt x)) (omega arith)
-reads P (MuxLdAddr a) w h u = let f = words-fit P in read-row w 0x9F80 (omega arith) ∙ ap (λ x. MuxLdAddr (addressAt x)) (omega arith)
-reads P (MuxMapAddr a) w h u = let f = words-fit P in read-row w 0xA000 (omega arith) ∙ ap (λ x. MuxMapAddr (addressAt x)) (omega arith)
+reads P (Jump Jne k l r) w h u = read-row w 0x8A00 (omega arith) ∙ ap₃ (Jump Jne) (omega arith)
+reads P (Jump Jl k l r) w h u = read-row w 0x8C00 (omega arith) ∙ ap₃ (Jump Jl) (omega arith)
+reads P (Jump Jge k l r) w h u = read-row w 0x8E00 (omega arith) ∙ ap₃ (Jump Jge) (omega arith)
+reads P (Jump Je k l r) w h u = read-row w 0x9000 (omega arith) ∙ ap₃ (Jump Je) (omega arith)
+reads P (Arith Ld v n) w h u = read-row w 0x9C00 (omega arith) ∙ chosen (sums w) (w % 1024) 0x100 refl (omega arith) ∙ ap₂ (Arith Ld) (omega arith)
+reads P (Arith Add v n) w h u = read-row w 0x9C00 (omega arith) ∙ chosen (sums w) (w % 1024) 0x200 refl (omega arith) ∙ ap₂ (Arith Add) (omega arith)
+reads P (Arith Sub v n) w h u = read-row w 0x9C00 (omega arith) ∙ chosen (sums w) (w % 1024) 0x300 refl (omega arith) ∙ ap₂ (Arith Sub) (omega arith)
+reads P (ArithVar AddVar v l r) w h u = read-row w 0x9C00 (omega arith) ∙ chosen (sums w) (w % 1024) 0x310 refl (omega arith) ∙ ap₃ (ArithVar AddVar) (omega arith)
+reads P (ArithVar SubVar v l r) w h u = read-row w 0x9C00 (omega arith) ∙ chosen (sums w) (w % 1024) 0x400 refl (omega arith) ∙ ap₃ (ArithVar SubVar) (omega arith)
+reads P (MuxAt MuxMapStart a) w h u = let f = words-fit P in read-row w 0x9C80 (omega arith) ∙ ap (λ x. MuxAt MuxMapStart (addressAt x)) (omega arith)
+reads P (MuxAt MuxLdEnd a) w h u = let f = words-fit P in read-row w 0x9D00 (omega arith) ∙ ap (λ x. MuxAt MuxLdEnd (addressAt x)) (omega arith)
+reads P (MuxAt MuxLdStart a) w h u = let f = words-fit P in read-row w 0x9F00 (omega arith) ∙ ap (λ x. MuxAt MuxLdStart (addressAt x)) (omega arith)
+reads P (MuxAt MuxLdAddr a) w h u = let f = words-fit P in read-row w 0x9F80 (omega arith) ∙ ap (λ x. MuxAt MuxLdAddr (addressAt x)) (omega arith)
+reads P (MuxAt MuxMapAddr a) w h u = let f = words-fit P in read-row w 0xA000 (omega arith) ∙ ap (λ x. MuxAt MuxMapAddr (addressAt x)) (omega arith)
 reads P MuxClr w h u = no-operand 0x9D00 h refl
 reads P (MuxSel k) w h u = read-row w 0x9D80 (omega arith) ∙ ap MuxSel (omega arith)
-reads P MuxMapNext w h u = no-operand 0x9D80 h refl
-reads P MuxLdNext w h u = no-operand 0x9D81 h refl
-reads P MuxMapPrev w h u = no-operand 0x9DC0 h refl
-reads P MuxLdPrev w h u = no-operand 0x9DC1 h refl
+reads P (MuxMove MuxMapNext) w h u = no-operand 0x9D80 h refl
+reads P (MuxMove MuxLdNext) w h u = no-operand 0x9D81 h refl
+reads P (MuxMove MuxMapPrev) w h u = no-operand 0x9DC0 h refl
+reads P (MuxMove MuxLdPrev) w h u = no-operand 0x9DC1 h refl
 reads P (Branch c s) w h u = read-row w 0xC000 (omega arith) ∙ ap₂ (λ x y. Branch x (stepAt y)) (omega arith)
 reads P (End i z) w h u = end-row i z w (omega arith) (omega arith) (h .1)
 reads P Int w h u = no-operand 0xC400 h refl
@@ -153,26 +158,13 @@ only-undefined (RampVar p Up l r) e = cc
 only-undefined (RampVar p Down l r) e = cc
 only-undefined (SetVar v) e = cc
 only-undefined (BranchVar v s) e = cc
-only-undefined (Jne k l r) e = cc
-only-undefined (Jl k l r) e = cc
-only-undefined (Jge k l r) e = cc
-only-undefined (Je k l r) e = cc
-only-undefined (Ld v n) e = cc
-only-undefined (Add v n) e = cc
-only-undefined (Sub v n) e = cc
-only-undefined (AddVar v l r) e = cc
-only-undefined (SubVar v l r) e = cc
-only-undefined (MuxMapStart a) e = cc
-only-undefined (MuxLdEnd a) e = cc
-only-undefined (MuxLdStart a) e = cc
-only-undefined (MuxLdAddr a) e = cc
-only-undefined (MuxMapAddr a) e = cc
+only-undefined (Jump o k l r) e = cc
+only-undefined (Arith o v n) e = cc
+only-undefined (ArithVar o v l r) e = cc
+only-undefined (MuxAt o a) e = cc
 only-undefined MuxClr e = cc
 only-undefined (MuxSel k) e = cc
-only-undefined MuxMapNext e = cc
-only-undefined MuxLdNext e = cc
-only-undefined MuxMapPrev e = cc
-only-undefined MuxLdPrev e = cc
+only-undefined (MuxMove o) e = cc
 only-undefined (Branch c s) e = cc
 only-undefined (End i z) e = cc
 only-undefined Int e = cc

@@ -8,8 +8,13 @@ use lib.Dec.{ltb, eqb}
 use Rattle.word.specs.declared.Step.{Step}
 use Rattle.word.specs.declared.Address.{Address}
 use Rattle.word.specs.declared.Direction.the-variants.{Up, Down}
+use Rattle.word.specs.declared.JumpOp.the-variants.{Jne, Jl, Jge, Je}
+use Rattle.word.specs.declared.ArithOp.the-variants.{Ld, Add, Sub}
+use Rattle.word.specs.declared.ArithVarOp.the-variants.{AddVar, SubVar}
+use Rattle.word.specs.declared.MuxAtOp.the-variants.{MuxMapStart, MuxLdEnd, MuxLdStart, MuxLdAddr, MuxMapAddr}
+use Rattle.word.specs.declared.MuxMoveOp.the-variants.{MuxMapNext, MuxLdNext, MuxMapPrev, MuxLdPrev}
 use Rattle.word.specs.declared.Word.{Word}
-use Rattle.word.specs.declared.Word.the-variants.{Rst, Ramp, Wait, Set, RampVar, SetVar, BranchVar, Jne, Jl, Jge, Je, Ld, Add, Sub, AddVar, SubVar, MuxMapStart, MuxLdEnd, MuxLdStart, MuxLdAddr, MuxMapAddr, MuxClr, MuxSel, MuxMapNext, MuxLdNext, MuxMapPrev, MuxLdPrev, Branch, End, Int, Trigger, Undefined}
+use Rattle.word.specs.declared.Word.the-variants.{Rst, Ramp, Wait, Set, RampVar, SetVar, BranchVar, Jump, Arith, ArithVar, MuxAt, MuxClr, MuxSel, MuxMove, Branch, End, Int, Trigger, Undefined}
 use Rattle.word.specs.Profile.{Profile}
 use Rattle.word.specs.Answer.{Answer}
 use Rattle.word.specs.Table.{encodeOf}
@@ -50,11 +55,11 @@ rampVars w =
 -- Words that write a variable, by the bits under its number.
 abbrev pub sums : ℕ → List Row
 sums w =
-    Ld (w / 1024 % 4) (w % 256) below 0x100 ∷
-    Add (w / 1024 % 4) (w % 256) below 0x200 ∷
-    Sub (w / 1024 % 4) (w % 256) below 0x300 ∷
-    AddVar (w / 1024 % 4) (w / 4 % 4) (w % 4) below 0x310 ∷
-    SubVar (w / 1024 % 4) (w / 4 % 4) (w % 4) below 0x400 ∷ []
+    Arith Ld (w / 1024 % 4) (w % 256) below 0x100 ∷
+    Arith Add (w / 1024 % 4) (w % 256) below 0x200 ∷
+    Arith Sub (w / 1024 % 4) (w % 256) below 0x300 ∷
+    ArithVar AddVar (w / 1024 % 4) (w / 4 % 4) (w % 4) below 0x310 ∷
+    ArithVar SubVar (w / 1024 % 4) (w / 4 % 4) (w % 4) below 0x400 ∷ []
 
 abbrev pub rows : ℕ → List Row
 rows w =
@@ -65,22 +70,22 @@ rows w =
     choose (w % 32) (rampVars w) below 0x8460 ∷
     SetVar (w % 4) below 0x8600 ∷
     BranchVar (w % 4) (stepAt (w / 4 % 128)) below 0x8800 ∷
-    Jne (w / 16 % 32) (w / 4 % 4) (w % 4) below 0x8A00 ∷
-    Jl (w / 16 % 32) (w / 4 % 4) (w % 4) below 0x8C00 ∷
-    Jge (w / 16 % 32) (w / 4 % 4) (w % 4) below 0x8E00 ∷
-    Je (w / 16 % 32) (w / 4 % 4) (w % 4) below 0x9000 ∷
+    Jump Jne (w / 16 % 32) (w / 4 % 4) (w % 4) below 0x8A00 ∷
+    Jump Jl (w / 16 % 32) (w / 4 % 4) (w % 4) below 0x8C00 ∷
+    Jump Jge (w / 16 % 32) (w / 4 % 4) (w % 4) below 0x8E00 ∷
+    Jump Je (w / 16 % 32) (w / 4 % 4) (w % 4) below 0x9000 ∷
     choose (w % 1024) (sums w) below 0x9C00 ∷
-    MuxMapStart (addressAt (w % 128)) below 0x9C80 ∷
-    MuxLdEnd (addressAt (w % 128)) below 0x9D00 ∷
+    MuxAt MuxMapStart (addressAt (w % 128)) below 0x9C80 ∷
+    MuxAt MuxLdEnd (addressAt (w % 128)) below 0x9D00 ∷
     MuxClr below 0x9D01 ∷
     MuxSel (w % 128) below 0x9D80 ∷
-    MuxMapNext below 0x9D81 ∷
-    MuxLdNext below 0x9DC0 ∷
-    MuxMapPrev below 0x9DC1 ∷
-    MuxLdPrev below 0x9E00 ∷
-    MuxLdStart (addressAt (w % 128)) below 0x9F00 ∷
-    MuxLdAddr (addressAt (w % 128)) below 0x9F80 ∷
-    MuxMapAddr (addressAt (w % 128)) below 0xA000 ∷
+    MuxMove MuxMapNext below 0x9D81 ∷
+    MuxMove MuxLdNext below 0x9DC0 ∷
+    MuxMove MuxMapPrev below 0x9DC1 ∷
+    MuxMove MuxLdPrev below 0x9E00 ∷
+    MuxAt MuxLdStart (addressAt (w % 128)) below 0x9F00 ∷
+    MuxAt MuxLdAddr (addressAt (w % 128)) below 0x9F80 ∷
+    MuxAt MuxMapAddr (addressAt (w % 128)) below 0xA000 ∷
     Branch (w / 128 % 64) (stepAt (w % 128)) below 0xC000 ∷
     End (w / 4096 % 2) (w / 2048 % 2) below 0xC400 ∷
     Int below 0xC401 ∷

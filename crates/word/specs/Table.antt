@@ -3,8 +3,18 @@ use Prim.Native.Nat.{ℕ, _+_, _*_}
 use mathlib.Core.Bool.{Bool, true, cond, _&&_}
 use mathlib.Core.List.{List, [], _∷_, map}
 use Rattle.word.specs.declared.Direction.the-variants.{Up, Down}
+use Rattle.word.specs.declared.JumpOp.{JumpOp}
+use Rattle.word.specs.declared.JumpOp.the-variants.{Jne, Jl, Jge, Je}
+use Rattle.word.specs.declared.ArithOp.{ArithOp}
+use Rattle.word.specs.declared.ArithOp.the-variants.{Ld, Add, Sub}
+use Rattle.word.specs.declared.ArithVarOp.{ArithVarOp}
+use Rattle.word.specs.declared.ArithVarOp.the-variants.{AddVar, SubVar}
+use Rattle.word.specs.declared.MuxAtOp.{MuxAtOp}
+use Rattle.word.specs.declared.MuxAtOp.the-variants.{MuxMapStart, MuxLdEnd, MuxLdStart, MuxLdAddr, MuxMapAddr}
+use Rattle.word.specs.declared.MuxMoveOp.{MuxMoveOp}
+use Rattle.word.specs.declared.MuxMoveOp.the-variants.{MuxMapNext, MuxLdNext, MuxMapPrev, MuxLdPrev}
 use Rattle.word.specs.declared.Word.{Word}
-use Rattle.word.specs.declared.Word.the-variants.{Rst, Ramp, Wait, Set, RampVar, SetVar, BranchVar, Jne, Jl, Jge, Je, Ld, Add, Sub, AddVar, SubVar, MuxMapStart, MuxLdEnd, MuxLdStart, MuxLdAddr, MuxMapAddr, MuxClr, MuxSel, MuxMapNext, MuxLdNext, MuxMapPrev, MuxLdPrev, Branch, End, Int, Trigger, Undefined}
+use Rattle.word.specs.declared.Word.the-variants.{Rst, Ramp, Wait, Set, RampVar, SetVar, BranchVar, Jump, Arith, ArithVar, MuxAt, MuxClr, MuxSel, MuxMove, Branch, End, Int, Trigger, Undefined}
 use Rattle.word.specs.Profile.{Profile}
 use Rattle.word.specs.Field.{Field, flag, time, byte, rise, variable, target, skip, loops, step, address, output, triggers, rangesOf, inside}
 use Rattle.word.specs.Answer.{Answer, success, refusal}
@@ -23,6 +33,35 @@ pub data Line : Type 0 where
   line : List Operand → ℕ → Line
   none : Line
 
+-- The bases of the lines that several operations share.
+abbrev pub jumpBase : JumpOp → ℕ
+jumpBase Jne = 0x8800
+jumpBase Jl = 0x8A00
+jumpBase Jge = 0x8C00
+jumpBase Je = 0x8E00
+
+abbrev pub arithBase : ArithOp → ℕ
+arithBase Ld = 0x9000
+arithBase Add = 0x9100
+arithBase Sub = 0x9200
+
+abbrev pub arithVarBase : ArithVarOp → ℕ
+arithVarBase AddVar = 0x9300
+arithVarBase SubVar = 0x9310
+
+abbrev pub muxAtBase : MuxAtOp → ℕ
+muxAtBase MuxMapStart = 0x9C00
+muxAtBase MuxLdEnd = 0x9C80
+muxAtBase MuxLdStart = 0x9E00
+muxAtBase MuxLdAddr = 0x9F00
+muxAtBase MuxMapAddr = 0x9F80
+
+abbrev pub muxMoveCode : MuxMoveOp → ℕ
+muxMoveCode MuxMapNext = 0x9D80
+muxMoveCode MuxLdNext = 0x9D81
+muxMoveCode MuxMapPrev = 0x9DC0
+muxMoveCode MuxLdPrev = 0x9DC1
+
 abbrev pub lineOf : Word → Line
 lineOf Rst = line [] 0x0000
 -- bit 14 p, bits 13:9 t, bit 8 sign, bits 7:0 n; down if sign is 1
@@ -34,29 +73,15 @@ lineOf (Set n) = line (n within byte ∷ []) (0x4000 + n)
 -- 8400+32p+16sign+4l+r
 lineOf (RampVar p Up l r) = line (p within flag ∷ l within variable ∷ r within variable ∷ []) (0x8400 + 32 * p + 4 * l + r)
 lineOf (RampVar p Down l r) = line (p within flag ∷ l within variable ∷ r within variable ∷ []) (0x8400 + 16 + 32 * p + 4 * l + r)
--- the rest: a base, plus the fields
 lineOf (SetVar v) = line (v within variable ∷ []) (0x8460 + v)
 lineOf (BranchVar v s) = line (s .0 within step ∷ v within variable ∷ []) (0x8600 + 4 * s .0 + v)
-lineOf (Jne k l r) = line (k within skip ∷ l within variable ∷ r within variable ∷ []) (0x8800 + 16 * k + 4 * l + r)
-lineOf (Jl k l r) = line (k within skip ∷ l within variable ∷ r within variable ∷ []) (0x8A00 + 16 * k + 4 * l + r)
-lineOf (Jge k l r) = line (k within skip ∷ l within variable ∷ r within variable ∷ []) (0x8C00 + 16 * k + 4 * l + r)
-lineOf (Je k l r) = line (k within skip ∷ l within variable ∷ r within variable ∷ []) (0x8E00 + 16 * k + 4 * l + r)
-lineOf (Ld v n) = line (v within target ∷ n within byte ∷ []) (0x9000 + 1024 * v + n)
-lineOf (Add v n) = line (v within target ∷ n within byte ∷ []) (0x9100 + 1024 * v + n)
-lineOf (Sub v n) = line (v within target ∷ n within byte ∷ []) (0x9200 + 1024 * v + n)
-lineOf (AddVar v l r) = line (v within target ∷ l within variable ∷ r within variable ∷ []) (0x9300 + 1024 * v + 4 * l + r)
-lineOf (SubVar v l r) = line (v within target ∷ l within variable ∷ r within variable ∷ []) (0x9310 + 1024 * v + 4 * l + r)
-lineOf (MuxMapStart a) = line (a .0 within address ∷ []) (0x9C00 + a .0)
-lineOf (MuxLdEnd a) = line (a .0 within address ∷ []) (0x9C80 + a .0)
-lineOf (MuxLdStart a) = line (a .0 within address ∷ []) (0x9E00 + a .0)
-lineOf (MuxLdAddr a) = line (a .0 within address ∷ []) (0x9F00 + a .0)
-lineOf (MuxMapAddr a) = line (a .0 within address ∷ []) (0x9F80 + a .0)
+lineOf (Jump o k l r) = line (k within skip ∷ l within variable ∷ r within variable ∷ []) (jumpBase o + 16 * k + 4 * l + r)
+lineOf (Arith o v n) = line (v within target ∷ n within byte ∷ []) (arithBase o + 1024 * v + n)
+lineOf (ArithVar o v l r) = line (v within target ∷ l within variable ∷ r within variable ∷ []) (arithVarBase o + 1024 * v + 4 * l + r)
+lineOf (MuxAt o a) = line (a .0 within address ∷ []) (muxAtBase o + a .0)
 lineOf MuxClr = line [] 0x9D00
 lineOf (MuxSel k) = line (k within output ∷ []) (0x9D00 + k)
-lineOf MuxMapNext = line [] 0x9D80
-lineOf MuxLdNext = line [] 0x9D81
-lineOf MuxMapPrev = line [] 0x9DC0
-lineOf MuxLdPrev = line [] 0x9DC1
+lineOf (MuxMove o) = line [] (muxMoveCode o)
 lineOf (Branch c s) = line (c within loops ∷ s .0 within step ∷ []) (0xA000 + 128 * c + s .0)
 lineOf (End i z) = line (i within flag ∷ z within flag ∷ []) (0xC000 + 4096 * i + 2048 * z)
 lineOf Int = line [] 0xC400

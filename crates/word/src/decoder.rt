@@ -2,8 +2,13 @@
 // rest; what was read is kept if it encodes to the same bits again.
 use super::encoder::encode;
 use crate::Address;
+use crate::ArithOp;
+use crate::ArithVarOp;
 use crate::Coded;
 use crate::Direction;
+use crate::JumpOp;
+use crate::MuxAtOp;
+use crate::MuxMoveOp;
 use crate::Step;
 use crate::Word;
 ghost use mathlib.Core.Path.{_≡_};
@@ -66,18 +71,40 @@ fn sum_at(code: u16) -> Word
     let left = code / 4 % 4;
     let right = code % 4;
     if code % 1024 < 0x100 {
-        return Word::Ld { to, value };
+        return Word::Arith {
+            op: ArithOp::Ld,
+            to,
+            value,
+        };
     }
     if code % 1024 < 0x200 {
-        return Word::Add { to, value };
+        return Word::Arith {
+            op: ArithOp::Add,
+            to,
+            value,
+        };
     }
     if code % 1024 < 0x300 {
-        return Word::Sub { to, value };
+        return Word::Arith {
+            op: ArithOp::Sub,
+            to,
+            value,
+        };
     }
     if code % 1024 < 0x310 {
-        return Word::AddVar { to, left, right };
+        return Word::ArithVar {
+            op: ArithVarOp::AddVar,
+            to,
+            left,
+            right,
+        };
     }
-    Word::SubVar { to, left, right }
+    Word::ArithVar {
+        op: ArithVarOp::SubVar,
+        to,
+        left,
+        right,
+    }
 }
 
 // Words that begin with 0 to 7.
@@ -116,15 +143,35 @@ fn from_8(code: u16) -> Word
         return Word::BranchVar { loops: right, step };
     }
     if code < 0x8A00 {
-        return Word::Jne { skip, left, right };
+        return Word::Jump {
+            op: JumpOp::Jne,
+            skip,
+            left,
+            right,
+        };
     }
     if code < 0x8C00 {
-        return Word::Jl { skip, left, right };
+        return Word::Jump {
+            op: JumpOp::Jl,
+            skip,
+            left,
+            right,
+        };
     }
     if code < 0x8E00 {
-        return Word::Jge { skip, left, right };
+        return Word::Jump {
+            op: JumpOp::Jge,
+            skip,
+            left,
+            right,
+        };
     }
-    Word::Je { skip, left, right }
+    Word::Jump {
+        op: JumpOp::Je,
+        skip,
+        left,
+        right,
+    }
 }
 
 // Words that begin with 9.
@@ -137,21 +184,36 @@ fn from_9(code: u16) -> Word
     }
     let address = Address(code % 128);
     if code < 0x9C80 {
-        return Word::MuxMapStart { address };
+        return Word::MuxAt {
+            op: MuxAtOp::MuxMapStart,
+            address,
+        };
     }
     if code < 0x9D00 {
-        return Word::MuxLdEnd { address };
+        return Word::MuxAt {
+            op: MuxAtOp::MuxLdEnd,
+            address,
+        };
     }
     if code < 0x9E00 {
         return from_9d(code);
     }
     if code < 0x9F00 {
-        return Word::MuxLdStart { address };
+        return Word::MuxAt {
+            op: MuxAtOp::MuxLdStart,
+            address,
+        };
     }
     if code < 0x9F80 {
-        return Word::MuxLdAddr { address };
+        return Word::MuxAt {
+            op: MuxAtOp::MuxLdAddr,
+            address,
+        };
     }
-    Word::MuxMapAddr { address }
+    Word::MuxAt {
+        op: MuxAtOp::MuxMapAddr,
+        address,
+    }
 }
 
 // Words that begin with 9D.
@@ -166,15 +228,23 @@ fn from_9d(code: u16) -> Word
         return Word::MuxSel { output: code % 128 };
     }
     if code < 0x9D81 {
-        return Word::MuxMapNext;
+        return Word::MuxMove {
+            op: MuxMoveOp::MuxMapNext,
+        };
     }
     if code < 0x9DC0 {
-        return Word::MuxLdNext;
+        return Word::MuxMove {
+            op: MuxMoveOp::MuxLdNext,
+        };
     }
     if code < 0x9DC1 {
-        return Word::MuxMapPrev;
+        return Word::MuxMove {
+            op: MuxMoveOp::MuxMapPrev,
+        };
     }
-    Word::MuxLdPrev
+    Word::MuxMove {
+        op: MuxMoveOp::MuxLdPrev,
+    }
 }
 
 // Words that begin with C or D.

@@ -1,6 +1,11 @@
 // From an instruction word to its 16 bits. A number that does not fit its field is refused.
+use crate::ArithOp;
+use crate::ArithVarOp;
 use crate::Coded;
 use crate::Direction;
+use crate::JumpOp;
+use crate::MuxAtOp;
+use crate::MuxMoveOp;
 use crate::Word;
 ghost use mathlib.Core.Path.{_≡_};
 ghost use mathlib.Core.List.{[], _∷_};
@@ -8,7 +13,7 @@ ghost use Prim.Native.Nat.{_+_, _*_, _<_};
 ghost use Rattle.word.specs.Profile.{LP5523};
 ghost use Rattle.word.specs.Field.{Field, rangesOf, upto, inside};
 ghost use Rattle.word.specs.Answer.{answerOf};
-ghost use Rattle.word.specs.Table.{judged, encodeOf};
+ghost use Rattle.word.specs.Table.{judged, jumpBase, arithBase, arithVarBase, muxAtBase, muxMoveCode, encodeOf};
 
 // A word of one field: base + x.
 fn one(base: u16, x: u16, xmost: u16) -> Coded
@@ -144,6 +149,59 @@ fn trigger(wait: u16, send: u16) -> Coded
     Coded::OutsideField
 }
 
+fn jump_base(op: JumpOp) -> u16
+    ensures { λ r. ⌜ r ≡ jumpBase op ⌝ }
+{
+    match op {
+        JumpOp::Jne => 0x8800,
+        JumpOp::Jl => 0x8A00,
+        JumpOp::Jge => 0x8C00,
+        JumpOp::Je => 0x8E00,
+    }
+}
+
+fn arith_base(op: ArithOp) -> u16
+    ensures { λ r. ⌜ r ≡ arithBase op ⌝ }
+{
+    match op {
+        ArithOp::Ld => 0x9000,
+        ArithOp::Add => 0x9100,
+        ArithOp::Sub => 0x9200,
+    }
+}
+
+fn arith_var_base(op: ArithVarOp) -> u16
+    ensures { λ r. ⌜ r ≡ arithVarBase op ⌝ }
+{
+    match op {
+        ArithVarOp::AddVar => 0x9300,
+        ArithVarOp::SubVar => 0x9310,
+    }
+}
+
+fn mux_at_base(op: MuxAtOp) -> u16
+    ensures { λ r. ⌜ r ≡ muxAtBase op ⌝ }
+{
+    match op {
+        MuxAtOp::MuxMapStart => 0x9C00,
+        MuxAtOp::MuxLdEnd => 0x9C80,
+        MuxAtOp::MuxLdStart => 0x9E00,
+        MuxAtOp::MuxLdAddr => 0x9F00,
+        MuxAtOp::MuxMapAddr => 0x9F80,
+    }
+}
+
+fn mux_move_code(op: MuxMoveOp) -> u16
+    ensures { λ r. ⌜ r ≡ muxMoveCode op ⌝ }
+{
+    match op {
+        MuxMoveOp::MuxMapNext => 0x9D80,
+        MuxMoveOp::MuxLdNext => 0x9D81,
+        MuxMoveOp::MuxMapPrev => 0x9DC0,
+        MuxMoveOp::MuxLdPrev => 0x9DC1,
+    }
+}
+
 // The 16 bits of a word, or its refusal.
 pub fn encode(word: Word) -> Coded
     ensures { λ r. ⌜ answerOf r ≡ encodeOf LP5523 word ⌝ }
@@ -166,26 +224,23 @@ pub fn encode(word: Word) -> Coded
         } => ramp_var(prescale, dir, time, count),
         Word::SetVar { from } => one(0x8460, from, 3),
         Word::BranchVar { loops, step } => two(0x8600, 4, step.0, 127, loops, 3),
-        Word::Jne { skip, left, right } => three(0x8800, 16, skip, 31, 4, left, 3, right, 3),
-        Word::Jl { skip, left, right } => three(0x8A00, 16, skip, 31, 4, left, 3, right, 3),
-        Word::Jge { skip, left, right } => three(0x8C00, 16, skip, 31, 4, left, 3, right, 3),
-        Word::Je { skip, left, right } => three(0x8E00, 16, skip, 31, 4, left, 3, right, 3),
-        Word::Ld { to, value } => two(0x9000, 1024, to, 2, value, 255),
-        Word::Add { to, value } => two(0x9100, 1024, to, 2, value, 255),
-        Word::Sub { to, value } => two(0x9200, 1024, to, 2, value, 255),
-        Word::AddVar { to, left, right } => three(0x9300, 1024, to, 2, 4, left, 3, right, 3),
-        Word::SubVar { to, left, right } => three(0x9310, 1024, to, 2, 4, left, 3, right, 3),
-        Word::MuxMapStart { address } => one(0x9C00, address.0, 95),
-        Word::MuxLdEnd { address } => one(0x9C80, address.0, 95),
-        Word::MuxLdStart { address } => one(0x9E00, address.0, 95),
-        Word::MuxLdAddr { address } => one(0x9F00, address.0, 95),
-        Word::MuxMapAddr { address } => one(0x9F80, address.0, 95),
+        Word::Jump {
+            op,
+            skip,
+            left,
+            right,
+        } => three(jump_base(op), 16, skip, 31, 4, left, 3, right, 3),
+        Word::Arith { op, to, value } => two(arith_base(op), 1024, to, 2, value, 255),
+        Word::ArithVar {
+            op,
+            to,
+            left,
+            right,
+        } => three(arith_var_base(op), 1024, to, 2, 4, left, 3, right, 3),
+        Word::MuxAt { op, address } => one(mux_at_base(op), address.0, 95),
         Word::MuxClr => Coded::Code(0x9D00),
         Word::MuxSel { output } => mux_sel(output),
-        Word::MuxMapNext => Coded::Code(0x9D80),
-        Word::MuxLdNext => Coded::Code(0x9D81),
-        Word::MuxMapPrev => Coded::Code(0x9DC0),
-        Word::MuxLdPrev => Coded::Code(0x9DC1),
+        Word::MuxMove { op } => Coded::Code(mux_move_code(op)),
         Word::Branch { loops, step } => two(0xA000, 128, loops, 63, step.0, 127),
         Word::End { int, reset } => scaled(0xC000, 4096, int, 1, 2048, reset, 1),
         Word::Int => Coded::Code(0xC400),

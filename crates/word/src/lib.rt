@@ -17,8 +17,43 @@ pub enum Direction {
     Down,
 }
 
-// An instruction word, its operands under the keys of its sheet line. An operand is wide enough to
-// lie outside its field, so that the encoder can refuse it. Variables are numbers: A is 0, D is 3.
+// The operations that share a line of document 01's table, under their names in a sheet.
+pub enum JumpOp {
+    Jne,
+    Jl,
+    Jge,
+    Je,
+}
+
+pub enum ArithOp {
+    Ld,
+    Add,
+    Sub,
+}
+
+pub enum ArithVarOp {
+    AddVar,
+    SubVar,
+}
+
+pub enum MuxAtOp {
+    MuxMapStart,
+    MuxLdEnd,
+    MuxLdStart,
+    MuxLdAddr,
+    MuxMapAddr,
+}
+
+pub enum MuxMoveOp {
+    MuxMapNext,
+    MuxLdNext,
+    MuxMapPrev,
+    MuxLdPrev,
+}
+
+// An instruction word: a case for each line of document 01's table, its operands under the keys of
+// its sheet line. An operand is wide enough to lie outside its field, so that the encoder can refuse
+// it. Variables are numbers: A is 0, D is 3.
 pub enum Word {
     Rst,
     Ramp {
@@ -47,71 +82,34 @@ pub enum Word {
         loops: u16,
         step: Step,
     },
-    Jne {
+    Jump {
+        op: JumpOp,
         skip: u16,
         left: u16,
         right: u16,
     },
-    Jl {
-        skip: u16,
-        left: u16,
-        right: u16,
-    },
-    Jge {
-        skip: u16,
-        left: u16,
-        right: u16,
-    },
-    Je {
-        skip: u16,
-        left: u16,
-        right: u16,
-    },
-    Ld {
+    Arith {
+        op: ArithOp,
         to: u16,
         value: u16,
     },
-    Add {
-        to: u16,
-        value: u16,
-    },
-    Sub {
-        to: u16,
-        value: u16,
-    },
-    AddVar {
+    ArithVar {
+        op: ArithVarOp,
         to: u16,
         left: u16,
         right: u16,
     },
-    SubVar {
-        to: u16,
-        left: u16,
-        right: u16,
-    },
-    MuxMapStart {
-        address: Address,
-    },
-    MuxLdEnd {
-        address: Address,
-    },
-    MuxLdStart {
-        address: Address,
-    },
-    MuxLdAddr {
-        address: Address,
-    },
-    MuxMapAddr {
+    MuxAt {
+        op: MuxAtOp,
         address: Address,
     },
     MuxClr,
     MuxSel {
         output: u16,
     },
-    MuxMapNext,
-    MuxLdNext,
-    MuxMapPrev,
-    MuxLdPrev,
+    MuxMove {
+        op: MuxMoveOp,
+    },
     Branch {
         loops: u16,
         step: Step,
@@ -135,14 +133,6 @@ pub enum Coded {
     UndefinedWord,
 }
 
-// What a jump asks of its two variables.
-pub enum Test {
-    Differs,
-    Less,
-    AtLeast,
-    Equals,
-}
-
 // Where a word lets the engine go on.
 pub enum Flow {
     // the next word
@@ -163,9 +153,9 @@ pub enum Flow {
         loops: u16,
         step: Step,
     },
-    // past skip more words where the test holds, else the next word
+    // past skip more words where the jump's test holds of left and right, else the next word
     Skip {
-        test: Test,
+        op: JumpOp,
         skip: u16,
         left: u16,
         right: u16,

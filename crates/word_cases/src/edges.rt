@@ -1,7 +1,12 @@
 // Each field at its last number and one past it.
 use super::print::encoded;
 use word::Address;
+use word::ArithOp;
+use word::ArithVarOp;
 use word::Direction;
+use word::JumpOp;
+use word::MuxAtOp;
+use word::MuxMoveOp;
 use word::Step;
 use word::Word;
 
@@ -74,9 +79,21 @@ fn waits() {
 
 fn values(value: u16) {
     encoded(Word::Set { value });
-    encoded(Word::Ld { to: 0, value });
-    encoded(Word::Add { to: 1, value });
-    encoded(Word::Sub { to: 2, value });
+    encoded(Word::Arith {
+        op: ArithOp::Ld,
+        to: 0,
+        value,
+    });
+    encoded(Word::Arith {
+        op: ArithOp::Add,
+        to: 1,
+        value,
+    });
+    encoded(Word::Arith {
+        op: ArithOp::Sub,
+        to: 2,
+        value,
+    });
 }
 
 fn variables(v: u16) {
@@ -93,12 +110,14 @@ fn variables(v: u16) {
         time: 0,
         count: v,
     });
-    encoded(Word::AddVar {
+    encoded(Word::ArithVar {
+        op: ArithVarOp::AddVar,
         to: 0,
         left: v,
         right: 0,
     });
-    encoded(Word::SubVar {
+    encoded(Word::ArithVar {
+        op: ArithVarOp::SubVar,
         to: 0,
         left: 0,
         right: v,
@@ -106,15 +125,29 @@ fn variables(v: u16) {
 }
 
 fn targets(to: u16) {
-    encoded(Word::Ld { to, value: 0 });
-    encoded(Word::Add { to, value: 0 });
-    encoded(Word::Sub { to, value: 0 });
-    encoded(Word::AddVar {
+    encoded(Word::Arith {
+        op: ArithOp::Ld,
+        to,
+        value: 0,
+    });
+    encoded(Word::Arith {
+        op: ArithOp::Add,
+        to,
+        value: 0,
+    });
+    encoded(Word::Arith {
+        op: ArithOp::Sub,
+        to,
+        value: 0,
+    });
+    encoded(Word::ArithVar {
+        op: ArithVarOp::AddVar,
         to,
         left: 0,
         right: 0,
     });
-    encoded(Word::SubVar {
+    encoded(Word::ArithVar {
+        op: ArithVarOp::SubVar,
         to,
         left: 0,
         right: 0,
@@ -122,22 +155,26 @@ fn targets(to: u16) {
 }
 
 fn skips(skip: u16, v: u16) {
-    encoded(Word::Jne {
+    encoded(Word::Jump {
+        op: JumpOp::Jne,
         skip,
         left: v,
         right: 0,
     });
-    encoded(Word::Jl {
+    encoded(Word::Jump {
+        op: JumpOp::Jl,
         skip,
         left: 0,
         right: v,
     });
-    encoded(Word::Jge {
+    encoded(Word::Jump {
+        op: JumpOp::Jge,
         skip,
         left: v,
         right: v,
     });
-    encoded(Word::Je {
+    encoded(Word::Jump {
+        op: JumpOp::Je,
         skip,
         left: 0,
         right: 0,
@@ -152,11 +189,26 @@ fn branches(loops: u16, v: u16, s: u16) {
 
 fn addresses(a: u16) {
     let address = Address(a);
-    encoded(Word::MuxMapStart { address });
-    encoded(Word::MuxLdEnd { address });
-    encoded(Word::MuxLdStart { address });
-    encoded(Word::MuxLdAddr { address });
-    encoded(Word::MuxMapAddr { address });
+    encoded(Word::MuxAt {
+        op: MuxAtOp::MuxMapStart,
+        address,
+    });
+    encoded(Word::MuxAt {
+        op: MuxAtOp::MuxLdEnd,
+        address,
+    });
+    encoded(Word::MuxAt {
+        op: MuxAtOp::MuxLdStart,
+        address,
+    });
+    encoded(Word::MuxAt {
+        op: MuxAtOp::MuxLdAddr,
+        address,
+    });
+    encoded(Word::MuxAt {
+        op: MuxAtOp::MuxMapAddr,
+        address,
+    });
 }
 
 fn outputs() {
@@ -188,10 +240,18 @@ fn ends(flag: u16) {
 fn without_operands() {
     encoded(Word::Rst);
     encoded(Word::MuxClr);
-    encoded(Word::MuxMapNext);
-    encoded(Word::MuxLdNext);
-    encoded(Word::MuxMapPrev);
-    encoded(Word::MuxLdPrev);
+    encoded(Word::MuxMove {
+        op: MuxMoveOp::MuxMapNext,
+    });
+    encoded(Word::MuxMove {
+        op: MuxMoveOp::MuxLdNext,
+    });
+    encoded(Word::MuxMove {
+        op: MuxMoveOp::MuxMapPrev,
+    });
+    encoded(Word::MuxMove {
+        op: MuxMoveOp::MuxLdPrev,
+    });
     encoded(Word::Int);
     encoded(Word::Undefined);
 }

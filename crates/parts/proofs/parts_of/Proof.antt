@@ -1,21 +1,13 @@
 -- `parts::parts_of` meets its contract: each arm knows its case. Assumes nothing.
-use Prim.Native.Nat.{ℕ}
 use mathlib.Core.Path.{_≡_, sym, _∙_, ap}
 use Rattle.word.specs.declared.Word.{Word}
 use Rattle.parts.specs.declared.Parts.{Parts}
-use Rattle.parts.specs.Parts.{parts, partsOf}
+use Rattle.parts.specs.Parts.{partsOf}
 use Rattle.parts.proofs.parts_of.Statement.{statement}
 use Rattle.parts.proofs.parts_of.Tie as tie
 
 arm : {i j : Word} {r : Parts} → r ≡ partsOf j → i ≡ j → r ≡ partsOf i
 arm p e = p ∙ ap partsOf (sym e)
-
--- the direction is the second operand or the third
-second : {o a b b′ c d : ℕ} {r : Parts} → r ≡ parts o a b c d → b ≡ b′ → r ≡ parts o a b′ c d
-second {o} {a} {c = c} {d} p e = p ∙ ap (λ (x : ℕ). parts o a x c d) e
-
-third : {o a b c c′ d : ℕ} {r : Parts} → r ≡ parts o a b c d → c ≡ c′ → r ≡ parts o a b c′ d
-third {o} {a} {b} {d = d} p e = p ∙ ap (λ (x : ℕ). parts o a b x d) e
 
 pub parts-of-spec : {M : Type 1} → statement M
 parts-of-spec =
@@ -39,17 +31,22 @@ parts-of-spec =
     (λ c κs. tt)
     (λ c. c .match .keys8)
     (λ c κs. tt)
+    (λ c κs. tt)
     (λ c. c .match .keys9)
+    (λ c κs. tt)
     (λ c κs. tt)
     (λ c. c .match .keys10)
     (λ c κs. tt)
+    (λ c κs. tt)
     (λ c. c .match .keys11)
+    (λ c κs. tt)
     (λ c κs. tt)
     (λ c. c .match .keys12)
     (λ c κs. tt)
     (λ c. c .match .keys13)
     (λ c κs. tt)
     (λ c. c .match .keys14)
+    (λ c κs. tt)
     (λ c κs. tt)
     (λ c. c .match .keys15)
     (λ c κs. tt)
@@ -61,61 +58,22 @@ parts-of-spec =
     (λ c κs. tt)
     (λ c. c .match .keys19)
     (λ c κs. tt)
-    (λ c. c .match .keys20)
-    (λ c κs. tt)
-    (λ c. c .match .keys21)
-    (λ c κs. tt)
-    (λ c. c .match .keys22)
-    (λ c κs. tt)
-    (λ c. c .match .keys23)
-    (λ c κs. tt)
-    (λ c. c .match .keys24)
-    (λ c κs. tt)
-    (λ c. c .match .keys25)
-    (λ c κs. tt)
-    (λ c. c .match .keys26)
-    (λ c κs. tt)
-    (λ c. c .match .keys27)
-    (λ c κs. tt)
-    (λ c. c .match .keys28)
-    (λ c κs. tt)
-    (λ c. c .match .keys29)
-    (λ c κs. tt)
-    (λ c. c .match .keys30)
-    (λ c κs. tt)
-    (λ c. c .match .keys31)
-    (λ c κs. tt)
-    (λ c. c .match .keys32)
-    (λ c κs. tt)
     (λ c. arm (c .with-operands .ensures) (c .before .enum-told .given .1))
-    (λ c. arm (third (c .with-operands2 .ensures) (c .before .sign-of .ensures)) (c .before .before .before .word .given .1))
+    (λ c. arm (rw (c .before .sign-of .ensures) at (c .with-operands2 .ensures)) (c .before .before .before .word .given .1))
     (λ c. arm (c .with-operands3 .ensures) (c .before .before .word2 .given .1))
     (λ c. arm (c .with-operands4 .ensures) (c .before .before .word3 .given .1))
-    (λ c. arm (second (c .with-operands5 .ensures) (c .before .sign-of2 .ensures)) (c .before .before .before .word4 .given .1))
+    (λ c. arm (rw (c .before .sign-of2 .ensures) at (c .with-operands5 .ensures)) (c .before .before .before .word4 .given .1))
     (λ c. arm (c .with-operands6 .ensures) (c .before .before .word5 .given .1))
     (λ c. arm (c .with-operands7 .ensures) (c .before .before .word6 .given .1))
-    (λ c. arm (c .with-operands8 .ensures) (c .before .before .word7 .given .1))
-    (λ c. arm (c .with-operands9 .ensures) (c .before .before .word8 .given .1))
-    (λ c. arm (c .with-operands10 .ensures) (c .before .before .word9 .given .1))
-    (λ c. arm (c .with-operands11 .ensures) (c .before .before .word10 .given .1))
-    (λ c. arm (c .with-operands12 .ensures) (c .before .before .word11 .given .1))
-    (λ c. arm (c .with-operands13 .ensures) (c .before .before .word12 .given .1))
-    (λ c. arm (c .with-operands14 .ensures) (c .before .before .word13 .given .1))
-    (λ c. arm (c .with-operands15 .ensures) (c .before .before .word14 .given .1))
-    (λ c. arm (c .with-operands16 .ensures) (c .before .before .word15 .given .1))
-    (λ c. arm (c .with-operands17 .ensures) (c .before .before .word16 .given .1))
-    (λ c. arm (c .with-operands18 .ensures) (c .before .before .word17 .given .1))
-    (λ c. arm (c .with-operands19 .ensures) (c .before .before .word18 .given .1))
-    (λ c. arm (c .with-operands20 .ensures) (c .before .before .word19 .given .1))
-    (λ c. arm (c .with-operands21 .ensures) (c .before .before .word20 .given .1))
-    (λ c. arm (c .with-operands22 .ensures) (c .before .enum-told2 .given .1))
-    (λ c. arm (c .with-operands23 .ensures) (c .before .before .word21 .given .1))
-    (λ c. arm (c .with-operands24 .ensures) (c .before .enum-told3 .given .1))
-    (λ c. arm (c .with-operands25 .ensures) (c .before .enum-told4 .given .1))
-    (λ c. arm (c .with-operands26 .ensures) (c .before .enum-told5 .given .1))
-    (λ c. arm (c .with-operands27 .ensures) (c .before .enum-told6 .given .1))
-    (λ c. arm (c .with-operands28 .ensures) (c .before .before .word22 .given .1))
-    (λ c. arm (c .with-operands29 .ensures) (c .before .before .word23 .given .1))
-    (λ c. arm (c .with-operands30 .ensures) (c .before .enum-told7 .given .1))
-    (λ c. arm (c .with-operands31 .ensures) (c .before .before .word24 .given .1))
-    (λ c. arm (c .with-operands32 .ensures) (c .before .enum-told8 .given .1)))
+    (λ c. arm (rw (c .before .jump-place .ensures) at (c .with-operands8 .ensures)) (c .before .before .before .word7 .given .1))
+    (λ c. arm (rw (c .before .arith-place .ensures) at (c .with-operands9 .ensures)) (c .before .before .before .word8 .given .1))
+    (λ c. arm (rw (c .before .arith-var-place .ensures) at (c .with-operands10 .ensures)) (c .before .before .before .word9 .given .1))
+    (λ c. arm (rw (c .before .mux-at-place .ensures) at (c .with-operands11 .ensures)) (c .before .before .before .word10 .given .1))
+    (λ c. arm (c .with-operands12 .ensures) (c .before .enum-told2 .given .1))
+    (λ c. arm (c .with-operands13 .ensures) (c .before .before .word11 .given .1))
+    (λ c. arm (rw (c .before .mux-move-place .ensures) at (c .with-operands14 .ensures)) (c .before .before .before .word12 .given .1))
+    (λ c. arm (c .with-operands15 .ensures) (c .before .before .word13 .given .1))
+    (λ c. arm (c .with-operands16 .ensures) (c .before .before .word14 .given .1))
+    (λ c. arm (c .with-operands17 .ensures) (c .before .enum-told3 .given .1))
+    (λ c. arm (c .with-operands18 .ensures) (c .before .before .word15 .given .1))
+    (λ c. arm (c .with-operands19 .ensures) (c .before .enum-told4 .given .1)))
