@@ -9,8 +9,8 @@ use borrow.Author.Tests.{leb-true, le-leb, lt-leb}
 use Rattle.word.specs.Profile.{Profile, LP5523, wordsOf, engineBits}
 use Rattle.word.specs.Field.{Range, _to_, upto, inside, rangesOf}
 use Rattle.word.specs.Answer.{Answer, success, refusal}
-use Rattle.word.specs.Table.{Operand, Line, line, none, fits, every, judged, encodeLine, operandsIn}
-use Rattle.word.specs.Theorems.{leastOf, mostOf, Between, AllWithin}
+use Rattle.word.specs.Table.{Operand, Line, line, none, fits, every, judged, encodeLine}
+use Rattle.word.specs.Theorems.{operandsIn, leastOf, mostOf, Between, AllWithin}
 
 pub and-false : (a : Bool) → (a && false) ≡ false
 and-false true = refl
@@ -103,6 +103,9 @@ parts P none w e = let n : _≡_ {A = ℕ} 13 0 = ap (λ (r : Answer). r .number
 -- ---- the profiles' limits leave room in the words
 pub words-fit : (P : Profile) → wordsOf P ≤ 128
 words-fit LP5523 = omega arith
+
+pub words-positive : (P : Profile) → 1 ≤ wordsOf P
+words-positive LP5523 = omega arith
 
 pub engines-fit : (P : Profile) → engineBits P ≤ 31
 engines-fit LP5523 = omega arith

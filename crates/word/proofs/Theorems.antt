@@ -3,7 +3,7 @@ use Prim.Native.Nat.{ℕ, zero, suc, _+_, _*_, _/_, _%_, _≤_, _<_}
 use mathlib.Core.Bool.{Bool, true, false, cond, _&&_, true≢false}
 use mathlib.Core.List.{List, [], _∷_, map}
 use mathlib.Core.Logic.{_↔_}
-use mathlib.Core.Path.{_≡_, refl, sym, _∙_, ap}
+use mathlib.Core.Path.{_≡_, refl, sym, _∙_, ap, subst}
 use native.Mathlib.Omega.{arith}
 use lib.Dec.{ltb, eqb}
 use borrow.Author.Tests.{eqb-true, eq-eqb, ltb-true, ltb-false}
@@ -16,11 +16,12 @@ use Rattle.word.specs.declared.MuxMoveOp.the-variants.{MuxMapNext, MuxLd
 use Rattle.word.specs.declared.Word.{Word}
 use Rattle.word.specs.declared.Word.the-variants.{Rst, Ramp, Wait, Set, RampVar, SetVar, BranchVar, Jump, Arith, ArithVar, MuxAt, MuxClr, MuxSel, MuxMove, Branch, End, Int, Trigger, Undefined}
 use Rattle.word.specs.Profile.{Profile}
+use Rattle.word.specs.Field.{inside}
 use Rattle.word.specs.Answer.{Answer, success, refusal}
-use Rattle.word.specs.Table.{Operand, Line, line, none, lineOf, fits, every, encodeLine, encodeOf, operandsIn, operandsOf}
+use Rattle.word.specs.Table.{Operand, Line, line, none, lineOf, fits, every, encodeLine, encodeOf}
 use Rattle.word.specs.Decode.{choose, stepAt, addressAt, ramps, rampVars, sums, rows, reading, isSuccess, decodeOf}
-use Rattle.word.specs.Theorems.{EncodedDecodes, OneWordPerCode, SixteenBits, DecodedEncodes, UndefinedExactly, SomeOutside, here, later, Refuses13, Refuses22, AllWithin, OperandsWithin}
-use Rattle.word.proofs.Fields.{and-left, and-right, and-false, codeIn, parts, words-fit, engines-fit}
+use Rattle.word.specs.Theorems.{EncodedDecodes, OneWordPerCode, SixteenBits, DecodedEncodes, UndefinedExactly, operandsIn, operandsOf, SomeOutside, here, later, Refuses13, Refuses22, RefusesUpByZero, Succeeds, AllWithin, OperandsWithin, AddressWithin, StepWithin}
+use Rattle.word.proofs.Fields.{and-left, and-right, and-false, codeIn, parts, words-fit, words-positive, engines-fit}
 use Rattle.word.proofs.Rows.{before, caseAt, chosen, past, read-row}
 
 -- a case of two or three operands, from what its operands are
@@ -209,11 +210,38 @@ refuses-22-at P none = (λ e. absurd (omega arith), λ s. absurd (true≢false (
 pub refuses-22 : Refuses22
 refuses-22 P i = refuses-22-at P (lineOf i)
 
+pub refuses-up-by-zero : RefusesUpByZero
+unfolding inside
+refuses-up-by-zero P p t = refuses-22 P (Ramp p t Up 0) .1 (later (later (here refl)))
+
+all-fit : (P : Profile) (os : List Operand) (c : ℕ) (b : Bool) → every (map (fits P) os) ≡ b → (SomeOutside P os → ⊥) → (w : ℕ) × (cond b (success c) (refusal 22) ≡ success w)
+all-fit P os c true e n = (c, refl)
+all-fit P os c false e n = absurd (n (some-outside P os e))
+
+succeeds-at : (P : Profile) (l : Line) → (l ≡ none → ⊥) → (SomeOutside P (operandsIn l) → ⊥) → (w : ℕ) × (encodeLine P l ≡ success w)
+succeeds-at P (line os c) u n = all-fit P os c (every (map (fits P) os)) refl n
+succeeds-at P none u n = absurd (u refl)
+
+pub succeeds : Succeeds
+succeeds P i u n = succeeds-at P (lineOf i) (λ e. u (only-undefined i e)) n
+
 -- ---- 5
 within-kept : (P : Profile) (w : ℕ) (i : Word) (b : Bool) → isSuccess (encodeOf P i) w ≡ b → AllWithin P (operandsOf (cond b i Undefined))
 within-kept P w i true q = parts P (lineOf i) w (is-success (encodeOf P i) w q) .0
 within-kept P w i false q = tt
 
-pub operands-within : OperandsWithin
+within-decoded : (P : Profile) (w : ℕ) → AllWithin P (operandsOf (decodeOf P w))
 unfolding decodeOf
-operands-within P w = within-kept P w (reading w) (isSuccess (encodeOf P (reading w)) w) refl
+within-decoded P w = within-kept P w (reading w) (isSuccess (encodeOf P (reading w)) w) refl
+
+pub operands-within : OperandsWithin
+operands-within P w i e = subst (λ (j : Word). AllWithin P (operandsOf j)) e (within-decoded P w)
+
+pub address-within : AddressWithin
+address-within P w o a e = let h = operands-within P w (MuxAt o a) e in let p = words-positive P in omega arith
+
+pub step-within : StepWithin
+step-within P w n s = (
+  λ e. let h = operands-within P w (Branch n s) e in omega arith,
+  λ e. let h = operands-within P w (BranchVar n s) e in omega arith,
+)

@@ -108,11 +108,3 @@ encodeLine P none = refusal 13
 
 abbrev pub encodeOf : Profile → Word → Answer
 encodeOf P i = encodeLine P (lineOf i)
-
--- The operands of a word.
-abbrev pub operandsIn : Line → List Operand
-operandsIn (line os w) = os
-operandsIn none = []
-
-abbrev pub operandsOf : Word → List Operand
-operandsOf i = operandsIn (lineOf i)
