@@ -1,5 +1,7 @@
 //! Compares the proved decoder with a plain one: the answers on all 65,536 codes, then the time for
-//! each code, in one run. Both are called through a C function, so neither is inlined.
+//! each code, in one run. Each is behind a call of its own. What is timed is decoding a code and
+//! folding the word into a number. The plain side folds in each arm: of the ways that were tried to
+//! write it, that is the fastest.
 mod plain;
 
 use std::hint::black_box;
@@ -20,7 +22,7 @@ extern "C" fn plain_digest(code: u16) -> u64 {
 }
 
 fn plain(code: u16) -> u64 {
-    plain_digest(black_box(code))
+    plain_digest(code)
 }
 
 const ROUNDS: u32 = 200;
