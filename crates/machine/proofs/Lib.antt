@@ -1,0 +1,15 @@
+pub mod Common
+pub mod Frame
+pub mod Refusals
+pub mod Run
+pub mod Closed
+pub mod Kept
+pub mod WordsKept
+pub mod Quiet
+pub mod Safety
+pub mod Calls
+pub mod Moves
+pub mod Limits
+pub mod Theorems
+pub mod Examples
+pub mod Cases

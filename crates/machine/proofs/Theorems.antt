@@ -1,0 +1,40 @@
+-- The theorems of specs/Theorems.antt, each with the file that proves it.
+use Rattle.machine.specs.Theorems.{Demand3, Frame, OthersKept, NewChipWithin, StaysWithin, NewChipPc, PcStays, RefusedBurst, RefusedRun, StoppedBeat, RunIsBeats}
+use Rattle.machine.proofs.Safety as safety
+use Rattle.machine.proofs.Frame as framed
+use Rattle.machine.proofs.Limits as limits
+use Rattle.machine.proofs.Refusals as refusals
+use Rattle.machine.proofs.Run as running
+
+pub demand-3 : Demand3
+demand-3 = safety.demand-3
+
+pub frame : Frame
+frame = framed.frame
+
+pub others-kept : OthersKept
+others-kept = framed.others-kept
+
+pub new-chip-within : NewChipWithin
+new-chip-within = limits.new-chip-within
+
+pub stays-within : StaysWithin
+stays-within = limits.stays-within
+
+pub new-chip-pc : NewChipPc
+new-chip-pc = limits.new-chip-pc
+
+pub pc-stays : PcStays
+pc-stays = limits.pc-stays
+
+pub refused-burst : RefusedBurst
+refused-burst = refusals.refused-burst
+
+pub refused-run : RefusedRun
+refused-run = refusals.refused-run
+
+pub stopped-beat : StoppedBeat
+stopped-beat = refusals.stopped-beat
+
+pub run-is-beats : RunIsBeats
+run-is-beats = running.run-is-beats

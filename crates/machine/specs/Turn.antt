@@ -1,0 +1,99 @@
+-- An engine's turn ("An engine acts if in run mode (10) and either mid-word or not held. Not mid-word, it fetches at start+PC; if that
+-- exceeds 95, PC becomes 0 first"; "Its turn is its acting in a beat").
+use Prim.Native.Nat.{ℕ, _+_}
+use mathlib.Core.Bool.{Bool, true, false, not, cond, _&&_, _||_}
+use lib.Dec.{ltb}
+use lib.ListN.{getD, set}
+use Rattle.word.specs.Profile.{Profile, wordsOf}
+use Rattle.word.specs.Decode.{decodeOf, stepAt}
+use Rattle.word.specs.declared.Word.{Word}
+use Rattle.word.specs.declared.Step.{Step}
+use Rattle.word.specs.declared.Address.{Address}
+use Rattle.machine.specs.declared.Mode.{Mode}
+use Rattle.machine.specs.declared.Mode.the-variants.{Disabled, Load, Run, Halt}
+use Rattle.machine.specs.declared.Exec.{Exec}
+use Rattle.machine.specs.declared.Exec.the-variants.{Hold, Step as StepOnce, Free, Once}
+use Rattle.machine.specs.declared.Progress.{Progress}
+use Rattle.machine.specs.declared.Progress.the-variants.{BetweenWords, Waiting, Ramping, Triggering}
+use Rattle.machine.specs.declared.Engine.{Engine}
+use Rattle.machine.specs.declared.Chip.{Chip}
+use Rattle.machine.specs.declared.Act.{Act}
+use Rattle.machine.specs.declared.Turned.{Turned}
+use Rattle.machine.specs.Parts.{each, withPc, engineAt}
+use Rattle.machine.specs.Durations.{waits, ramps}
+use Rattle.machine.specs.Outputs.{outputAfter}
+use Rattle.machine.specs.Triggers.{triggers, receives}
+use Rattle.machine.specs.Words.{begins}
+
+abbrev pub isRun : Mode → Bool
+isRun Disabled = false
+isRun Load = false
+isRun Run = true
+isRun Halt = false
+
+abbrev pub isHold : Exec → Bool
+isHold Hold = true
+isHold StepOnce = false
+isHold Free = false
+isHold Once = false
+
+abbrev pub midWord : Progress → Bool
+midWord BetweenWords = false
+midWord (Waiting n) = true
+midWord (Ramping d p l n) = true
+midWord (Triggering w x) = true
+
+abbrev pub acts : Engine → Bool
+acts e = isRun (e .mode) && (midWord (e .progress) || not (isHold (e .exec)))
+
+-- "An engine fetches whenever it acts and isn't mid-word."
+abbrev pub fetches : Engine → Bool
+fetches e = acts e && not (midWord (e .progress))
+
+-- The address of the word at PC: the one place where a step is added to an address.
+abbrev pub addressOf : Address → Step → ℕ
+addressOf start pc = start .0 + pc .0
+
+-- The engine as it fetches: past the memory's last word PC becomes 0 first.
+abbrev pub returned : Profile → Engine → Engine
+returned P e = cond (ltb (addressOf (e .start) (e .pc)) (wordsOf P)) e (withPc (stepAt 0) e)
+
+-- The word at an address; past the memory it is 0.
+abbrev pub fetched : Profile → Chip → ℕ → Word
+fetched P m a = decodeOf P (getD (m .memory) a 0)
+
+-- The first beat of the word that engine e fetches.
+abbrev pub starts : Profile → Chip → Engine → Act
+starts P m e = begins P (m .c) (m .d) (m .memory) e (addressOf (e .start) (e .pc)) (fetched P m (addressOf (e .start) (e .pc)))
+
+-- A beat of engine e, by its word in progress.
+unfoldable pub beatOf : Profile → Chip → Engine → Progress → Act
+beatOf P m e BetweenWords = starts P m (returned P e)
+beatOf P m e (Waiting n) = waits (m .c) e n
+beatOf P m e (Ramping dir p l n) = ramps (m .c) e dir p l n
+beatOf P m e (Triggering w x) = triggers (m .c) e w x
+
+-- The chip after a beat of engine i.
+abbrev pub applied : Profile → ℕ → Chip → Act → Turned
+applied P i m t =
+    record {
+      chip = record {
+        enabled = m .enabled;
+        c = t .c;
+        d = m .d;
+        page = m .page;
+        memory = m .memory;
+        outputs = each (outputAfter P (m .engines) i (t .effect)) 0 (m .outputs);
+        engines = each (receives i (t .send)) 0 (set (m .engines) i (t .own));
+      };
+      send = t .send;
+      ended = t .ended;
+    }
+
+-- By whether the engine acts.
+abbrev pub turnIf : Profile → ℕ → Chip → Bool → Turned
+turnIf P i m true = applied P i m (beatOf P m (engineAt P m i) (engineAt P m i .progress))
+turnIf P i m false = record { chip = m; send = 0; ended = false }
+
+unfoldable pub turn : Profile → ℕ → Chip → Turned
+turn P i m = turnIf P i m (acts (engineAt P m i))

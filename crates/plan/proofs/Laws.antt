@@ -1,0 +1,157 @@
+-- Laws that the functions' proofs share.
+use Prim.Native.Nat.{ℕ, suc, _+_, _-_, _≤_, _<_}
+use mathlib.Core.Bool.{Bool, true, false, not, cond, _&&_, false≢true}
+use mathlib.Core.List.{List}
+use mathlib.Core.Path.{_≡_, refl, sym, ap, _∙_}
+use native.Mathlib.Omega.{arith}
+use borrow.Author.Tests.{ltb-true, not-true, not-false}
+use lib.Dec.{leb, ltb}
+use Rattle.word.specs.Profile.{Profile, LP5523}
+use Rattle.word.specs.Decode.{addressAt}
+use Rattle.word.specs.Classes.{flowOf, tableUseOf}
+use Rattle.word.specs.declared.Address.{Address}
+use Rattle.word.specs.declared.Flow.{Flow}
+use Rattle.word.specs.declared.Word.{Word}
+use Rattle.plan.specs.declared.EnginePlan.{EnginePlan}
+use Rattle.plan.specs.declared.EnginePlan.the-variants.{Unused, Code, CodeAndTable}
+use Rattle.plan.specs.declared.Verdict.{Verdict}
+use Rattle.plan.specs.declared.Verdict.the-variants.{Accept, WrongLength, OutOfOrder, CodeMeetsTable, UndefinedWord, SuccessorOutside, TableMisused, TableNotOpened, ReservedRowBit}
+use Rattle.plan.specs.Tests.{ordered, inOrder, isFault, successorsInside, usesOwnTable, opensTable}
+use Rattle.plan.specs.Passes.{isAccept, orElse, scan, wordVerdict, wordsVerdict, rowsVerdict, codeVerdict, tableVerdict}
+
+-- what an arm of a match gives, of the value that is known there
+pub via : {A B : Type 0} (f : A → B) {x y : A} {r : B} → r ≡ f y → x ≡ y → r ≡ f x
+via f p e = p ∙ ap f (sym e)
+
+pub and-true : (b : Bool) → (b && true) ≡ b
+and-true true = refl
+and-true false = refl
+
+pub and-left : (a b : Bool) → (a && b) ≡ true → a ≡ true
+and-left true b e = refl
+and-left false b e = e
+
+pub and-right : (a b : Bool) → (a && b) ≡ true → b ≡ true
+and-right true b e = e
+and-right false b e = absurd (false≢true e)
+
+-- what a test `!f(..)` tells, by what f ensures
+pub failed : {r s : Bool} → r ≡ s → not r ≡ true → s ≡ false
+failed {r} e t = sym e ∙ not-true r t
+
+pub passed : {r s : Bool} → r ≡ s → not r ≡ false → s ≡ true
+passed {r} e t = sym e ∙ not-false r t
+
+-- the first of two verdicts that refuses
+pub or-accept : (v w : Verdict) → isAccept v ≡ true → orElse v w ≡ w
+unfolding orElse
+or-accept v w e = ap (λ (b : Bool). cond b w v) e
+
+pub or-refused : (v w : Verdict) → isAccept v ≡ false → orElse v w ≡ v
+unfolding orElse
+or-refused v w e = ap (λ (b : Bool). cond b w v) e
+
+pub stops : {v a : Verdict} (b : Verdict) → v ≡ a → isAccept v ≡ false → v ≡ orElse a b
+stops {v} b e n = sym (or-refused v b n) ∙ ap (λ (x : Verdict). orElse x b) e
+
+pub goes-on : {v a w b : Verdict} → v ≡ a → isAccept v ≡ true → w ≡ b → w ≡ orElse a b
+goes-on {v} {b = b} e y f = f ∙ sym (or-accept v b y) ∙ ap (λ (x : Verdict). orElse x b) e
+
+pub is-accept : (v : Verdict) → isAccept v ≡ true → v ≡ Accept
+is-accept Accept e = refl
+is-accept WrongLength e = cc
+is-accept (OutOfOrder i) e = cc
+is-accept (CodeMeetsTable i) e = cc
+is-accept (UndefinedWord i a) e = cc
+is-accept (SuccessorOutside i a) e = cc
+is-accept (TableMisused i a) e = cc
+is-accept (TableNotOpened i a) e = cc
+is-accept (ReservedRowBit i a) e = cc
+
+-- where 11 has passed, a range ends in the memory
+ordered-within : (f l : Address) → ordered LP5523 f l ≡ true → l .0 < 96
+ordered-within f l e = ltb-true (l .0) 96 (and-right (leb (f .0) (l .0)) (ltb (l .0) 96) e)
+
+pub code-within : (q : EnginePlan) (f l : Address) → inOrder LP5523 q ≡ true → q ≡ Code f l → l .0 < 96
+code-within q f l h e = ordered-within f l (ap (inOrder LP5523) (sym e) ∙ h)
+
+module _ (q : EnginePlan) (f l t b : Address) (h : inOrder LP5523 q ≡ true) (e : q ≡ CodeAndTable f l t b) where
+  both-ordered : (ordered LP5523 f l && ordered LP5523 t b) ≡ true
+  both-ordered = ap (inOrder LP5523) (sym e) ∙ h
+
+  pub code-beside-table-within : l .0 < 96
+  code-beside-table-within = ordered-within f l (and-left (ordered LP5523 f l) (ordered LP5523 t b) both-ordered)
+
+  pub table-within : b .0 < 96
+  table-within = ordered-within t b (and-right (ordered LP5523 f l) (ordered LP5523 t b) both-ordered)
+
+-- an engine's words and rows, by what its plan is
+module _ (P : Profile) (q : EnginePlan) (i : ℕ) (image : List ℕ) where
+  pub no-words : q ≡ Unused → Accept ≡ codeVerdict P q i image
+  unfolding codeVerdict
+  no-words e = ap (λ (r : EnginePlan). codeVerdict P r i image) (sym e)
+
+  pub code-words : {f l : Address} → q ≡ Code f l → wordsVerdict P (Code f l) i image (f .0) (l .0 + 1 - f .0) ≡ codeVerdict P q i image
+  unfolding codeVerdict
+  code-words e = ap (λ (r : EnginePlan). codeVerdict P r i image) (sym e)
+
+  module _ {f l t b : Address} (e : q ≡ CodeAndTable f l t b) where
+    pub code-beside-table-words : wordsVerdict P (CodeAndTable f l t b) i image (f .0) (l .0 + 1 - f .0) ≡ codeVerdict P q i image
+    unfolding codeVerdict
+    code-beside-table-words = ap (λ (r : EnginePlan). codeVerdict P r i image) (sym e)
+
+    pub not-opened : opensTable P image (CodeAndTable f l t b) ≡ false → TableNotOpened i f ≡ tableVerdict P q i image
+    unfolding tableVerdict
+    not-opened h =
+        sym (ap (λ (r : EnginePlan). tableVerdict P r i image) e
+        ∙ ap (λ (x : Bool). cond x (rowsVerdict P i image (t .0) (b .0 + 1 - t .0)) (TableNotOpened i f)) h)
+
+    pub opened : opensTable P image (CodeAndTable f l t b) ≡ true → rowsVerdict P i image (t .0) (b .0 + 1 - t .0) ≡ tableVerdict P q i image
+    unfolding tableVerdict
+    opened h =
+        sym (ap (λ (r : EnginePlan). tableVerdict P r i image) e
+        ∙ ap (λ (x : Bool). cond x (rowsVerdict P i image (t .0) (b .0 + 1 - t .0)) (TableNotOpened i f)) h)
+
+-- one word, by what was asked of it
+module _ (q : EnginePlan) (i a : ℕ) (w : Word) {f : Flow} (is-flow : f ≡ flowOf w) where
+  faultless : isFault f ≡ false → not (isFault (flowOf w)) ≡ true
+  faultless e = ap not (ap isFault (sym is-flow) ∙ e)
+
+  inside : {b : Bool} → successorsInside q a f ≡ b → successorsInside q a (flowOf w) ≡ b
+  inside e = ap (successorsInside q a) (sym is-flow) ∙ e
+
+  pub undefined-word : isFault f ≡ true → UndefinedWord i (addressAt a) ≡ wordVerdict q i a w
+  unfolding wordVerdict
+  undefined-word e = simp (ap isFault (sym is-flow) ∙ e)
+
+  pub successor-outside : isFault f ≡ false → successorsInside q a f ≡ false → SuccessorOutside i (addressAt a) ≡ wordVerdict q i a w
+  unfolding wordVerdict
+  successor-outside e s = simp (faultless e, inside s)
+
+  pub table-misused : isFault f ≡ false → successorsInside q a f ≡ true → usesOwnTable q (tableUseOf w) ≡ false
+      → TableMisused i (addressAt a) ≡ wordVerdict q i a w
+  unfolding wordVerdict
+  table-misused e s u = simp (faultless e, inside s, u)
+
+  pub word-fits : isFault f ≡ false → successorsInside q a f ≡ true → usesOwnTable q (tableUseOf w) ≡ true → Accept ≡ wordVerdict q i a w
+  unfolding wordVerdict
+  word-fits e s u = simp (faultless e, inside s, u)
+
+-- a scan from a to l: one step of the loop, and its end
+module _ (f : ℕ → Verdict) (a l : ℕ) where
+  scan-step : a ≤ l → scan f a (l + 1 - a) ≡ orElse (f a) (scan f (a + 1) (l + 1 - (a + 1)))
+  unfolding scan
+  scan-step h = let e : l + 1 - a ≡ suc (l + 1 - (a + 1)) = omega arith in ap (scan f a) e
+
+  module _ {v : Verdict} (h : a ≤ l) (is : v ≡ f a) where
+    pub scan-refused : isAccept v ≡ false → scan f a (l + 1 - a) ≡ v
+    scan-refused e =
+        scan-step h ∙ ap (λ (x : Verdict). orElse x (scan f (a + 1) (l + 1 - (a + 1)))) (sym is) ∙ or-refused v (scan f (a + 1) (l + 1 - (a + 1))) e
+
+    pub scan-passed : isAccept v ≡ true → scan f a (l + 1 - a) ≡ scan f (a + 1) (l + 1 - (a + 1))
+    scan-passed e =
+        scan-step h ∙ ap (λ (x : Verdict). orElse x (scan f (a + 1) (l + 1 - (a + 1)))) (sym is) ∙ or-accept v (scan f (a + 1) (l + 1 - (a + 1))) e
+
+  pub scan-end : l < a → scan f a (l + 1 - a) ≡ Accept
+  unfolding scan
+  scan-end h = let e : l + 1 - a ≡ 0 = omega arith in ap (scan f a) e

@@ -1,0 +1,126 @@
+-- The theorems of specs/Theorems.antt on the checker, under its names; tests-exactly is in proofs/Tests.antt.
+use Prim.Native.Nat.{ℕ}
+use mathlib.Core.Bool.{true, true≢false}
+use mathlib.Core.List.{List, [], _∷_, map, _++_}
+use mathlib.Core.Logic.{_↔_, Iff·trans}
+use mathlib.Core.Path.{_≡_, refl, sym, _∙_}
+use lib.ListN.{getD}
+use Rattle.word.specs.Profile.{Profile}
+use Rattle.word.specs.Classes.{tableUseOf}
+use Rattle.word.specs.Decode.{addressAt}
+use Rattle.plan.specs.declared.EnginePlan.{EnginePlan}
+use Rattle.plan.specs.declared.EnginePlan.the-variants.{Unused}
+use Rattle.plan.specs.declared.Plan.{Plan}
+use Rattle.plan.specs.declared.Verdict.{Verdict}
+use Rattle.plan.specs.declared.Verdict.the-variants.{OutOfOrder, CodeMeetsTable, TableNotOpened}
+use Rattle.plan.specs.Ranges.{planAt, InCode, InTable, firstOf, codeAddresses, tableAddresses}
+use Rattle.plan.specs.Conditions.{wordAt, InOrder, Apart, Defined, AllIn, SuccessorsInside, UsesOwnTable, OpensTable, RowClear, Accepted}
+use Rattle.plan.specs.Tests.{holds}
+use Rattle.plan.specs.Check.{engineNumbers, joined, ofWord, ofRow, ofEngine, verdictsOf, checkOf}
+use Rattle.plan.specs.Theorems.{AcceptsExactly, AllMet, RefusesFirst}
+use Rattle.plan.proofs.First.{allHold, first-none, first-all, first-splits}
+use Rattle.plan.proofs.Tests.{both, tests-exactly}
+use Rattle.plan.proofs.Lists.{all-map, all-given, engine-all, met-append, met-map, met-joined, over-code, over-table}
+
+-- What 13 to 17 ask of an engine.
+record Good (P : Profile) (image : List ℕ) (q : EnginePlan) : Type 0 where
+  words : (a : ℕ) → InCode q a → Defined (wordAt P image a) × SuccessorsInside q a (wordAt P image a) × UsesOwnTable q (tableUseOf (wordAt P image a))
+  opens : OpensTable P image q
+  rows : (a : ℕ) → InTable q a → RowClear P (getD image a 0)
+
+module _ (P : Profile) (p : Plan) (image : List ℕ) where
+  all-met : (vs : List Verdict) → (allHold (holds P p image) vs ≡ true) ↔ AllMet P p image vs
+  all-met [] = (λ e. tt, λ h. refl)
+  all-met (v ∷ vs) = both (holds P p image v) (allHold (holds P p image) vs) (tests-exactly P p image v) (all-met vs)
+
+  -- one engine's part of the order: its words, then its first two words and its rows
+  abbrev wordsPart : ℕ → List Verdict
+  wordsPart i = joined (ofWord i) (codeAddresses (planAt P p i))
+
+  abbrev rowsPart : ℕ → List Verdict
+  rowsPart i = TableNotOpened i (addressAt (firstOf (planAt P p i))) ∷ joined (ofRow i) (tableAddresses (planAt P p i))
+
+  engine-met : (i : ℕ) → AllMet P p image (ofEngine (planAt P p i) i) ↔ Good P image (planAt P p i)
+  engine-met i = (
+    λ h.
+        let s = met-append P p image (wordsPart i) (rowsPart i) .0 h in
+        record {
+          words = λ a c. let w = over-code P p image (ofWord i) (planAt P p i) .0 (s .0) a c in (w .0, w .1 .0, w .1 .1 .0);
+          opens = s .1 .0;
+          rows = λ a t. over-table P p image (ofRow i) (planAt P p i) .0 (s .1 .1) a t .0;
+        },
+    λ g.
+        met-append P p image (wordsPart i) (rowsPart i) .1 (
+          over-code P p image (ofWord i) (planAt P p i) .1 (λ a c. let w = g .words a c in (w .0, (w .1, (w .2, tt)))),
+          (g .opens, over-table P p image (ofRow i) (planAt P p i) .1 (λ a t. (g .rows a t, tt))),
+        ),
+  )
+
+  -- the order after WrongLength: 11, 12, then the engines
+  abbrev orders : List Verdict
+  orders = map OutOfOrder (engineNumbers P)
+
+  abbrev meetings : List Verdict
+  meetings = map CodeMeetsTable (engineNumbers P)
+
+  abbrev engines : List Verdict
+  engines = joined (λ i. ofEngine (planAt P p i) i) (engineNumbers P)
+
+  engines-met : AllMet P p image engines ↔ ((i : ℕ) → Good P image (planAt P p i))
+  engines-met = (
+    λ h. engine-all (Good P image) unused P p (all-map (λ i. engine-met i .0) (engineNumbers P) (each .0 h)),
+    λ g. each .1 (all-given (λ i. engine-met i .1 (g i)) (engineNumbers P)),
+  )
+    where
+      each : AllMet P p image engines ↔ AllIn (λ i. AllMet P p image (ofEngine (planAt P p i) i)) (engineNumbers P)
+      each = met-joined P p image (λ i. ofEngine (planAt P p i) i) (engineNumbers P)
+
+      unused : Good P image Unused
+      unused = record { words = λ a c. absurd c; opens = tt; rows = λ a c. absurd c }
+
+  accepted : AllMet P p image (verdictsOf P p) → Accepted P p image
+  accepted h =
+      let s = met-append P p image (orders ++ meetings) engines .0 (h .1) in
+      let t = met-append P p image orders meetings .0 (s .0) in
+      let good = engines-met .0 (s .1) in
+      record {
+        complete = h .0;
+        inOrder = engine-all (InOrder P) tt P p (met-map P p image OutOfOrder (engineNumbers P) .0 (t .0));
+        apart = engine-all (Apart P p) (λ i a c. absurd c) P p (met-map P p image CodeMeetsTable (engineNumbers P) .0 (t .1));
+        defined = λ i a c. good i .words a c .0;
+        successors = λ i a c. good i .words a c .1;
+        tableUse = λ i a c. good i .words a c .2;
+        opensTable = λ i. good i .opens;
+        rowsClear = λ i. good i .rows;
+      }
+
+  met : Accepted P p image → AllMet P p image (verdictsOf P p)
+  met A =
+      let o = met-map P p image OutOfOrder (engineNumbers P) .1 (all-given (A .inOrder) (engineNumbers P)) in
+      let m = met-map P p image CodeMeetsTable (engineNumbers P) .1 (all-given (A .apart) (engineNumbers P)) in
+      let e = engines-met .1 (λ i. record {
+        words = λ a c. (A .defined i a c, A .successors i a c, A .tableUse i a c);
+        opens = A .opensTable i;
+        rows = A .rowsClear i;
+      }) in
+      (A .complete, met-append P p image (orders ++ meetings) engines .1 (met-append P p image orders meetings .1 (o, m), e))
+
+-- ---- 1
+pub accepts-exactly : AcceptsExactly
+unfolding checkOf
+accepts-exactly P p image =
+    Iff·trans (first-all (holds P p image) refl (verdictsOf P p), first-none (holds P p image) (verdictsOf P p))
+    (Iff·trans (all-met P p image (verdictsOf P p)) (accepted P p image, met P p image))
+
+-- ---- 2
+pub refuses-first : RefusesFirst
+unfolding checkOf
+refuses-first P p image v e n =
+    let s = first-splits (holds P p image) (verdictsOf P p) v e n in
+    record {
+      before = s .before;
+      after = s .after;
+      place = s .place;
+      earlier = all-met P p image (s .before) .0 (s .earlier);
+      fails = λ c. true≢false (sym (tests-exactly P p image v .1 c) ∙ s .fails);
+    }

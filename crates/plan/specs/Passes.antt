@@ -1,0 +1,96 @@
+-- What the functions' parts give; that together they are checkOf is proved in proofs/; nothing here has to be believed.
+use Prim.Native.Nat.{ℕ, zero, suc, _+_, _-_}
+use mathlib.Core.Bool.{Bool, true, false, not, cond}
+use mathlib.Core.List.{List}
+use lib.ListN.{getD}
+use Rattle.word.specs.Profile.{Profile}
+use Rattle.word.specs.Decode.{addressAt}
+use Rattle.word.specs.Classes.{flowOf, tableUseOf}
+use Rattle.word.specs.declared.Word.{Word}
+use Rattle.plan.specs.declared.EnginePlan.{EnginePlan}
+use Rattle.plan.specs.declared.EnginePlan.the-variants.{Unused, Code, CodeAndTable}
+use Rattle.plan.specs.declared.Plan.{Plan}
+use Rattle.plan.specs.declared.Verdict.{Verdict}
+use Rattle.plan.specs.declared.Verdict.the-variants.{Accept, WrongLength, OutOfOrder, CodeMeetsTable, UndefinedWord, SuccessorOutside, TableMisused, TableNotOpened, ReservedRowBit}
+use Rattle.plan.specs.Ranges.{enginePlans, planAt}
+use Rattle.plan.specs.Conditions.{wordAt}
+use Rattle.plan.specs.Tests.{inOrder, meetsAny, isFault, successorsInside, usesOwnTable, opensTable, rowClear}
+
+abbrev pub isAccept : Verdict → Bool
+isAccept Accept = true
+isAccept WrongLength = false
+isAccept (OutOfOrder i) = false
+isAccept (CodeMeetsTable i) = false
+isAccept (UndefinedWord i a) = false
+isAccept (SuccessorOutside i a) = false
+isAccept (TableMisused i a) = false
+isAccept (TableNotOpened i a) = false
+isAccept (ReservedRowBit i a) = false
+
+-- The first of two verdicts that refuses.
+unfoldable pub orElse : Verdict → Verdict → Verdict
+orElse v w = cond (isAccept v) w v
+
+-- The first refusal that f gives at n addresses from a upward.
+unfoldable pub scan : (ℕ → Verdict) → ℕ → ℕ → Verdict
+scan f a zero = Accept
+scan f a (suc n) = orElse (f a) (scan f (a + 1) n)
+
+-- 11, of the three engines in turn.
+unfoldable pub orderVerdict : Profile → Plan → Verdict
+orderVerdict P p =
+    cond (inOrder P (planAt P p 1)) (cond (inOrder P (planAt P p 2)) (cond (inOrder P (planAt P p 3)) Accept (OutOfOrder 3)) (OutOfOrder 2)) (OutOfOrder 1)
+
+-- Whether the code q meets a table of the plan.
+abbrev pub meetsSome : Profile → Plan → EnginePlan → Bool
+meetsSome P p q = meetsAny q (enginePlans P p)
+
+-- 12, of the three engines in turn.
+unfoldable pub apartVerdict : Profile → Plan → Verdict
+apartVerdict P p =
+    cond
+    (not (meetsSome P p (planAt P p 1)))
+    (cond (not (meetsSome P p (planAt P p 2))) (cond (not (meetsSome P p (planAt P p 3))) Accept (CodeMeetsTable 3)) (CodeMeetsTable 2))
+    (CodeMeetsTable 1)
+
+-- 13, 14 and 15, of the word w at address a of engine i, whose plan is q.
+unfoldable pub wordVerdict : EnginePlan → ℕ → ℕ → Word → Verdict
+wordVerdict q i a w =
+    cond
+    (not (isFault (flowOf w)))
+    (cond (successorsInside q a (flowOf w)) (cond (usesOwnTable q (tableUseOf w)) Accept (TableMisused i (addressAt a))) (SuccessorOutside i (addressAt a)))
+    (UndefinedWord i (addressAt a))
+
+-- The same, of n words from address a upward.
+abbrev pub wordsVerdict : Profile → EnginePlan → ℕ → List ℕ → ℕ → ℕ → Verdict
+wordsVerdict P q i image = scan (λ a. wordVerdict q i a (wordAt P image a))
+
+-- 17, of the row at address a.
+unfoldable pub rowVerdict : Profile → ℕ → ℕ → ℕ → Verdict
+rowVerdict P i a row = cond (rowClear P row) Accept (ReservedRowBit i (addressAt a))
+
+-- The same, of n rows from address a upward.
+abbrev pub rowsVerdict : Profile → ℕ → List ℕ → ℕ → ℕ → Verdict
+rowsVerdict P i image = scan (λ a. rowVerdict P i a (getD image a 0))
+
+-- An engine's words.
+unfoldable pub codeVerdict : Profile → EnginePlan → ℕ → List ℕ → Verdict
+codeVerdict P Unused i image = Accept
+codeVerdict P (Code f l) i image = wordsVerdict P (Code f l) i image (f .0) (l .0 + 1 - f .0)
+codeVerdict P (CodeAndTable f l t b) i image = wordsVerdict P (CodeAndTable f l t b) i image (f .0) (l .0 + 1 - f .0)
+
+-- 16, and an engine's rows.
+unfoldable pub tableVerdict : Profile → EnginePlan → ℕ → List ℕ → Verdict
+tableVerdict P Unused i image = Accept
+tableVerdict P (Code f l) i image = Accept
+tableVerdict P (CodeAndTable f l t b) i image =
+    cond (opensTable P image (CodeAndTable f l t b)) (rowsVerdict P i image (t .0) (b .0 + 1 - t .0)) (TableNotOpened i f)
+
+-- All of an engine.
+unfoldable pub engineVerdict : Profile → EnginePlan → ℕ → List ℕ → Verdict
+engineVerdict P q i image = orElse (codeVerdict P q i image) (tableVerdict P q i image)
+
+-- The three engines in turn.
+unfoldable pub enginesVerdict : Profile → Plan → List ℕ → Verdict
+enginesVerdict P p image =
+    orElse (engineVerdict P (planAt P p 1) 1 image) (orElse (engineVerdict P (planAt P p 2) 2 image) (engineVerdict P (planAt P p 3) 3 image))

@@ -1,0 +1,24 @@
+-- The checker's answer as document 01 gives it: the number of its refusal, zero for success, and the engine and the address, zero where
+-- document 01 gives none ("The plan and the checker", "Numbers of refusal").
+use Prim.Native.Nat.{ℕ}
+use Rattle.plan.specs.declared.Verdict.{Verdict}
+use Rattle.plan.specs.declared.Verdict.the-variants.{Accept, WrongLength, OutOfOrder, CodeMeetsTable, UndefinedWord, SuccessorOutside, TableMisused, TableNotOpened, ReservedRowBit}
+
+pub record Report : Type 0 where
+  pub number : ℕ
+  pub engine : ℕ
+  pub address : ℕ
+
+abbrev pub report : ℕ → ℕ → ℕ → Report
+report n i a = record { number = n; engine = i; address = a }
+
+abbrev pub reportOf : Verdict → Report
+reportOf Accept = report 0 0 0
+reportOf WrongLength = report 9 0 0
+reportOf (OutOfOrder i) = report 11 i 0
+reportOf (CodeMeetsTable i) = report 12 i 0
+reportOf (UndefinedWord i a) = report 13 i (a .0)
+reportOf (SuccessorOutside i a) = report 14 i (a .0)
+reportOf (TableMisused i a) = report 15 i (a .0)
+reportOf (TableNotOpened i a) = report 16 i (a .0)
+reportOf (ReservedRowBit i a) = report 17 i (a .0)

@@ -1,0 +1,67 @@
+// What the rules ask of a word: where it lets the engine go on, and what it does to the pointers of
+// the mapping table. The definitions are crate word's, in specs/Classes.antt.
+use word::Address;
+use word::Flow;
+use word::MuxAtOp;
+use word::MuxMoveOp;
+use word::TableUse;
+use word::Word;
+ghost use mathlib.Core.Path.{_≡_};
+ghost use Rattle.word.specs.Classes.{flowOf, useAt, useMove, tableUseOf};
+
+pub fn flow_of(word: Word) -> Flow
+    ensures { λ r. ⌜ r ≡ flowOf word ⌝ }
+{
+    match word {
+        Word::Rst => Flow::Restart,
+        Word::BranchVar { loops, step } => Flow::LoopVar { loops, step },
+        Word::Jump {
+            op,
+            skip,
+            left,
+            right,
+        } => Flow::Skip {
+            op,
+            skip,
+            left,
+            right,
+        },
+        Word::Branch { loops, step } => Flow::Loop { loops, step },
+        Word::End { int: _, reset } => Flow::Stop { reset },
+        Word::Undefined => Flow::Fault,
+        _ => Flow::Next,
+    }
+}
+
+fn use_at(op: MuxAtOp, address: Address) -> TableUse
+    ensures { λ r. ⌜ r ≡ useAt op address ⌝ }
+{
+    match op {
+        MuxAtOp::MuxMapStart => TableUse::StartAt(address),
+        MuxAtOp::MuxLdEnd => TableUse::EndAt(address),
+        MuxAtOp::MuxLdStart => TableUse::StartAt(address),
+        MuxAtOp::MuxLdAddr => TableUse::RowAt(address),
+        MuxAtOp::MuxMapAddr => TableUse::RowAt(address),
+    }
+}
+
+fn use_move(op: MuxMoveOp) -> TableUse
+    ensures { λ r. ⌜ r ≡ useMove op ⌝ }
+{
+    match op {
+        MuxMoveOp::MuxMapNext => TableUse::Forward,
+        MuxMoveOp::MuxLdNext => TableUse::Forward,
+        MuxMoveOp::MuxMapPrev => TableUse::Backward,
+        MuxMoveOp::MuxLdPrev => TableUse::Backward,
+    }
+}
+
+pub fn table_use_of(word: Word) -> TableUse
+    ensures { λ r. ⌜ r ≡ tableUseOf word ⌝ }
+{
+    match word {
+        Word::MuxAt { op, address } => use_at(op, address),
+        Word::MuxMove { op } => use_move(op),
+        _ => TableUse::Nothing,
+    }
+}

@@ -1,0 +1,57 @@
+// Plans of light programs, and the program checker. The rules are document 01's, section "The plan
+// and the checker" and its numbers 9 and 11 to 17; specs/ has them.
+mod acceptance;
+mod apart;
+mod checker;
+mod classes;
+mod order;
+mod successors;
+mod table;
+mod table_use;
+mod words;
+
+pub use checker::check;
+use word::Address;
+
+// What one engine has: nothing; the code addresses first to last; and perhaps the rows of a mapping
+// table, top to bottom. Equal plans are equal values.
+pub enum EnginePlan {
+    Unused,
+    Code {
+        first: Address,
+        last: Address,
+    },
+    CodeAndTable {
+        first: Address,
+        last: Address,
+        top: Address,
+        bottom: Address,
+    },
+}
+
+pub struct Plan {
+    pub engine1: EnginePlan,
+    pub engine2: EnginePlan,
+    pub engine3: EnginePlan,
+}
+
+// What the checker answers; engines are counted from 1. `reportOf` in specs/Verdict.antt gives each
+// case's number in document 01.
+pub enum Verdict {
+    Accept,
+    // the image doesn't have as many words as the chip
+    WrongLength,
+    // first above last, top above bottom, or past the memory
+    OutOfOrder { engine: u16 },
+    // a code address of this engine is also a table address
+    CodeMeetsTable { engine: u16 },
+    UndefinedWord { engine: u16, address: Address },
+    // a successor of this word lies outside the engine's code
+    SuccessorOutside { engine: u16, address: Address },
+    // a mux word that doesn't keep to the engine's table
+    TableMisused { engine: u16, address: Address },
+    // the code doesn't begin by setting the table's top and bottom
+    TableNotOpened { engine: u16, address: Address },
+    // a table row with a bit that is no output's
+    ReservedRowBit { engine: u16, address: Address },
+}
