@@ -24,7 +24,9 @@ use Rattle.machine.specs.Triggers.{receives, pulsed}
 use Rattle.machine.specs.Turn.{acts, beatOf, turnIf, turn}
 use Rattle.machine.specs.Tick.{stopped, withPulse, turns, tickIf, tick}
 use Rattle.machine.specs.Run.{quiet, oneMore, beatsMore, beginning, mostBeats, runOf}
-use Rattle.machine.specs.Registers.{registerAt, execOf, modeOf, pairOf, enters, judged, stored}
+use Rattle.machine.specs.Registers.{registerAt, execOf, modeOf, pairOf}
+use Rattle.machine.specs.Judged.{judged}
+use Rattle.machine.specs.Stored.{enters, stored}
 use Rattle.machine.specs.Burst.{Placed, visited, someUnlisted, succeeds, bytesWritten, burstOf}
 use Rattle.machine.specs.Interrupts.{readOf}
 use Rattle.machine.specs.Calls.{Call, beat, run, burst, readInterrupts, after}

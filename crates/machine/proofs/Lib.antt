@@ -1,3 +1,5 @@
+pub mod Examples
+pub mod Cases
 pub mod Common
 pub mod Frame
 pub mod Refusals
@@ -11,5 +13,3 @@ pub mod Calls
 pub mod Moves
 pub mod Limits
 pub mod Theorems
-pub mod Examples
-pub mod Cases

@@ -25,7 +25,8 @@ use Rattle.machine.specs.Parts.{zeroEngine, engineAt, withExec, withStar
 use Rattle.machine.specs.TablePointers.{nextIndex, previousIndex, pointed}
 use Rattle.machine.specs.Turn.{midWord, acts, addressOf, returned, starts, beatOf, turnIf, turn}
 use Rattle.machine.specs.Interrupts.{readOf}
-use Rattle.machine.specs.Registers.{prepared, enters, judged, stored}
+use Rattle.machine.specs.Judged.{judged}
+use Rattle.machine.specs.Stored.{prepared, enters, stored}
 use Rattle.machine.specs.Burst.{succeeds}
 use Rattle.machine.specs.Theorems.{EngineWithin, NewChipWithin, StaysWithin, PcWithin, AllPcWithin, NewChipPc, PcStays}
 use Rattle.machine.proofs.Common.{by-cond, or-false-right}

@@ -15,7 +15,9 @@ use Rattle.machine.specs.declared.Written.{Written}
 use Rattle.machine.specs.Parts.{bit, zeroEngine, engineAt, withExec, withInterrupt}
 use Rattle.machine.specs.Triggers.{receives, pulsed}
 use Rattle.machine.specs.Tick.{withPulse}
-use Rattle.machine.specs.Registers.{registerAt, pairOf, execOf, judged, stored}
+use Rattle.machine.specs.Registers.{registerAt, pairOf, execOf}
+use Rattle.machine.specs.Judged.{judged}
+use Rattle.machine.specs.Stored.{stored}
 use Rattle.machine.specs.Burst.{Placed, visited, someUnlisted, succeeds, bytesWritten, burstOf}
 use Rattle.machine.specs.Interrupts.{readOf}
 use Rattle.machine.specs.Calls.{burst, onlySettings, allowed}

@@ -12,7 +12,9 @@ use Rattle.machine.specs.declared.Register.{Register}
 use Rattle.machine.specs.declared.Register.the-variants.{Control, Modes, OutputLevel, VariableD, Start, Page, Memory, Unlisted}
 use Rattle.machine.specs.declared.Written.{Written}
 use Rattle.machine.specs.Outcome.{numberOf}
-use Rattle.machine.specs.Registers.{registerAt, judged, stored}
+use Rattle.machine.specs.Registers.{registerAt}
+use Rattle.machine.specs.Judged.{judged}
+use Rattle.machine.specs.Stored.{stored}
 
 -- A byte and the address that it goes to.
 pub record Placed : Type 0 where

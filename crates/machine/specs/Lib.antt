@@ -12,6 +12,8 @@ pub mod Tick
 pub mod Outcome
 pub mod Run
 pub mod Registers
+pub mod Judged
+pub mod Stored
 pub mod Burst
 pub mod Interrupts
 pub mod NewChip

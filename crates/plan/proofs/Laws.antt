@@ -23,6 +23,11 @@ use Rattle.plan.specs.Passes.{isAccept, orElse, scan, wordVerdict, words
 pub via : {A B : Type 0} (f : A → B) {x y : A} {r : B} → r ≡ f y → x ≡ y → r ≡ f x
 via f p e = p ∙ ap f (sym e)
 
+-- a fact, from each case of a test
+pub by-test : {A : Type 0} (b : Bool) → (b ≡ true → A) → (b ≡ false → A) → A
+by-test true f g = f refl
+by-test false f g = g refl
+
 pub and-true : (b : Bool) → (b && true) ≡ b
 and-true true = refl
 and-true false = refl

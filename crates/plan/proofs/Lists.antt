@@ -1,9 +1,8 @@
 -- What it says that every verdict of the order is met: engine by engine, address by address.
 use Prim.Native.Nat.{ℕ, zero, suc, _+_, _-_, _≤_, _<_}
-use mathlib.Core.Bool.{Bool, true, false}
 use mathlib.Core.List.{List, [], _∷_, map, _++_}
 use mathlib.Core.Logic.{_↔_, Iff·trans}
-use mathlib.Core.Path.{_≡_, refl, subst}
+use mathlib.Core.Path.{_≡_, subst}
 use native.Mathlib.Omega.{arith}
 use lib.Dec.{eqb}
 use borrow.Author.Tests.{eqb-true, eqb-false}
@@ -17,8 +16,9 @@ use Rattle.plan.specs.Ranges.{planAt, InRange, InCode, InTable, upward, 
 use Rattle.plan.specs.Conditions.{AllIn, Condition}
 use Rattle.plan.specs.Check.{engineNumbers, joined}
 use Rattle.plan.specs.Theorems.{AllMet}
+use Rattle.plan.proofs.Laws.{by-test}
 
--- ---- lists of numbers
+-- lists of numbers
 pub all-map : {R S : ℕ → Type 0} → ((x : ℕ) → R x → S x) → (xs : List ℕ) → AllIn R xs → AllIn S xs
 all-map f [] h = tt
 all-map f (x ∷ xs) h = (f x (h .0), all-map f xs (h .1))
@@ -26,10 +26,6 @@ all-map f (x ∷ xs) h = (f x (h .0), all-map f xs (h .1))
 pub all-given : {R : ℕ → Type 0} → ((x : ℕ) → R x) → (xs : List ℕ) → AllIn R xs
 all-given f [] = tt
 all-given f (x ∷ xs) = (f x, all-given f xs)
-
-by-test : {A : Type 0} (b : Bool) → (b ≡ true → A) → (b ≡ false → A) → A
-by-test true f g = f refl
-by-test false f g = g refl
 
 -- every address from a upward, n of them
 upward-at : (R : ℕ → Type 0) (a n x : ℕ) → AllIn R (upward a n) → a ≤ x → x < a + n → R x
@@ -71,7 +67,7 @@ engine-all R u LP5523 p h (suc (suc zero)) = h .1 .0
 engine-all R u LP5523 p h (suc (suc (suc zero))) = h .1 .1 .0
 engine-all R u LP5523 p h (suc (suc (suc (suc i)))) = u
 
--- ---- lists of verdicts
+-- lists of verdicts
 module _ (P : Profile) (p : Plan) (image : List ℕ) where
   pub met-append : (xs ys : List Verdict) → AllMet P p image (xs ++ ys) ↔ (AllMet P p image xs × AllMet P p image ys)
   met-append [] ys = (λ h. (tt, h), λ h. h .1)

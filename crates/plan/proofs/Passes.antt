@@ -18,15 +18,11 @@ use Rattle.plan.specs.Conditions.{wordAt}
 use Rattle.plan.specs.Tests.{holds, inOrder, opensTable}
 use Rattle.plan.specs.Check.{engineNumbers, joined, ofWord, ofRow, ofEngine, firstFailing, checkOf}
 use Rattle.plan.specs.Passes.{isAccept, orElse, scan, orderVerdict, apartVerdict, wordVerdict, wordsVerdict, rowVerdict, rowsVerdict, codeVerdict, tableVerdict, engineVerdict, enginesVerdict}
-use Rattle.plan.proofs.Laws.{is-accept, or-accept, or-refused}
+use Rattle.plan.proofs.Laws.{by-test, is-accept, or-accept, or-refused}
 
 -- the first failing of two lists
-by-bool : {A : Type 0} (b : Bool) → (b ≡ true → A) → (b ≡ false → A) → A
-by-bool true f g = f refl
-by-bool false f g = g refl
-
 or-none : (v : Verdict) → orElse v Accept ≡ v
-or-none v = by-bool (isAccept v) (λ h. or-accept v Accept h ∙ sym (is-accept v h)) (or-refused v Accept)
+or-none v = by-test (isAccept v) (λ h. or-accept v Accept h ∙ sym (is-accept v h)) (or-refused v Accept)
 
 step : (b : Bool) (v w x y : Verdict) → (b ≡ false → isAccept v ≡ false) → x ≡ orElse w y → cond b x v ≡ orElse (cond b w v) y
 step true v w x y r e = e
@@ -35,7 +31,7 @@ step false v w x y r e = sym (or-refused v y (r refl))
 module _ (f : Verdict → Bool) (passes : f Accept ≡ true) where
   -- a verdict that fails is a refusal
   refuses : (v : Verdict) → f v ≡ false → isAccept v ≡ false
-  refuses v e = by-bool (isAccept v) (λ h. h ∙ sym (ap f (is-accept v h) ∙ passes) ∙ e) (λ h. h)
+  refuses v e = by-test (isAccept v) (λ h. h ∙ sym (ap f (is-accept v h) ∙ passes) ∙ e) (λ h. h)
 
   append : (xs ys : List Verdict) → firstFailing f (xs ++ ys) ≡ orElse (firstFailing f xs) (firstFailing f ys)
   unfolding firstFailing

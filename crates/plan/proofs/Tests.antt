@@ -26,7 +26,7 @@ use Rattle.plan.specs.Theorems.{TestsExactly}
 abbrev pub Exactly : Bool → Type 0 → Type 0
 Exactly b A = (b ≡ true) ↔ A
 
--- ---- joining tests
+-- joining tests
 always : {A : Type 0} → A → Exactly true A
 always a = (λ e. a, λ h. refl)
 
@@ -51,7 +51,7 @@ neither : (a b : Bool) {A B : Type 0} → Exactly (not a) A → Exactly (not b) 
 neither true b s t = never (λ h. true≢false (sym (s .1 (h .0))))
 neither false b s t = restated t (λ y. (s .0 refl, y)) (λ h. h .1)
 
--- ---- numbers
+-- numbers
 at-most : (m n : ℕ) → Exactly (leb m n) (m ≤ n)
 at-most m n = (leb-true m n, le-leb m n)
 
@@ -69,7 +69,7 @@ in-code Unused a = never (λ h. h)
 in-code (Code f l) a = in-range f l a
 in-code (CodeAndTable f l t b) a = in-range f l a
 
--- ---- 11
+-- 11
 ordered-exactly : (P : Profile) (a b : Address) → Exactly (ordered P a b) (Ordered P a b)
 ordered-exactly P a b = both (leb (a .0) (b .0)) (ltb (b .0) (wordsOf P)) (at-most (a .0) (b .0)) (below (b .0) (wordsOf P))
 
@@ -78,7 +78,7 @@ in-order P Unused = always tt
 in-order P (Code f l) = ordered-exactly P f l
 in-order P (CodeAndTable f l t b) = both (ordered P f l) (ordered P t b) (ordered-exactly P f l) (ordered-exactly P t b)
 
--- ---- 12
+-- 12
 abbrev Disjoint : EnginePlan → EnginePlan → Type 0
 Disjoint q r = (a : ℕ) → InCode q a → InTable r a → ⊥
 
@@ -115,7 +115,7 @@ all-disjoint q (r ∷ rs) = restated (neither (meets q r) (meetsAny q rs) (plan-
 apart : (q : EnginePlan) (rs : List EnginePlan) → Exactly (not (meetsAny q rs)) ((i : ℕ) → Disjoint q (getD (Unused ∷ rs) i Unused))
 apart q rs = restated (all-disjoint q rs) (λ h. at-each q Unused rs (λ a c d. d, h)) (λ h i. h (suc i))
 
--- ---- 13
+-- 13
 no-fault : (w : Word) → Defined w → not (isFault (flowOf w)) ≡ true
 no-fault Rst d = refl
 no-fault (Ramp p t r n) d = refl
@@ -140,7 +140,7 @@ no-fault Undefined d = absurd (d refl)
 defined : (w : Word) → Exactly (not (isFault (flowOf w))) (Defined w)
 defined w = (λ e u. true≢false (sym e ∙ ap (λ (x : Word). not (isFault (flowOf x))) u), no-fault w)
 
--- ---- 14
+-- 14
 all-in : (f : ℕ → Bool) (R : ℕ → Type 0) → ((a : ℕ) → Exactly (f a) (R a)) → (xs : List ℕ) → Exactly (allIn f xs) (AllIn R xs)
 all-in f R t [] = always tt
 all-in f R t (x ∷ xs) = both (f x) (allIn f xs) (t x) (all-in f R t xs)
@@ -149,7 +149,7 @@ successors : (q : EnginePlan) (a : ℕ) (w : Word) → Exactly (successorsInside
 unfolding successorsInside
 successors q a w = all-in (inCode q) (InCode q) (in-code q) (successorsOf (firstOf q) a (flowOf w))
 
--- ---- 15
+-- 15
 no-use : (u : TableUse) → Exactly (noUse u) (NoUse u)
 no-use Nothing = always tt
 no-use (StartAt a) = never (λ h. h)
@@ -171,7 +171,7 @@ uses-own-table Unused u = no-use u
 uses-own-table (Code f l) u = no-use u
 uses-own-table (CodeAndTable f l t b) u = use-inside t b u
 
--- ---- 16
+-- 16
 opens-table : (P : Profile) (image : List ℕ) (q : EnginePlan) → Exactly (opensTable P image q) (OpensTable P image q)
 opens-table P image Unused = always tt
 opens-table P image (Code f l) = always tt

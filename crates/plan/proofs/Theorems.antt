@@ -105,14 +105,14 @@ module _ (P : Profile) (p : Plan) (image : List ℕ) where
       }) in
       (A .complete, met-append P p image (orders ++ meetings) engines .1 (met-append P p image orders meetings .1 (o, m), e))
 
--- ---- 1
+-- 1
 pub accepts-exactly : AcceptsExactly
 unfolding checkOf
 accepts-exactly P p image =
     Iff·trans (first-all (holds P p image) refl (verdictsOf P p), first-none (holds P p image) (verdictsOf P p))
     (Iff·trans (all-met P p image (verdictsOf P p)) (accepted P p image, met P p image))
 
--- ---- 2
+-- 2
 pub refuses-first : RefusesFirst
 unfolding checkOf
 refuses-first P p image v e n =
