@@ -1,14 +1,15 @@
 -- Small facts that the proofs share: on tests, on PC at a word's end, on lists changed at one place or at each.
 use Prim.Native.Nat.{ℕ, zero, suc, _+_, _≤_, _<_}
-use mathlib.Core.Bool.{Bool, true, false, cond, _&&_, _||_, true≢false}
+use mathlib.Core.Bool.{Bool, true, false, cond, _||_, true≢false}
 use mathlib.Core.List.{List, [], _∷_}
 use mathlib.Core.Path.{_≡_, refl, sym, _∙_, ap}
 use native.Mathlib.Omega.{arith}
 use lib.Dec.{ltb}
-use lib.ListN.{length, getD, set, List·getD-eq-default}
+use lib.ListN.{length, getD, set, replicate, List·getD-eq-default}
 use borrow.Author.Tests.{ltb-true, ltb-false}
 use Rattle.word.specs.Profile.{Profile, LP5523, wordsOf}
 use Rattle.word.specs.declared.Step.{Step}
+use Rattle.plan.proofs.Laws.{by-test}
 use Rattle.machine.specs.declared.Exec.{Exec}
 use Rattle.machine.specs.declared.Exec.the-variants.{Hold, Step as StepOnce, Free, Once}
 use Rattle.machine.specs.Parts.{each}
@@ -18,11 +19,6 @@ use Rattle.machine.specs.WordEnd.{pcAfter}
 pub by-cond : {A : Type 0} (F : A → Type 0) (b : Bool) {x y : A} → (b ≡ true → F x) → (b ≡ false → F y) → F (cond b x y)
 by-cond F true f g = f refl
 by-cond F false f g = g refl
-
--- a fact, from each case of a test
-pub by-test : {A : Type 0} (b : Bool) → (b ≡ true → A) → (b ≡ false → A) → A
-by-test true f g = f refl
-by-test false f g = g refl
 
 -- a fact about two choices by one test
 pub both : {A B : Type 0} (R : A → B → Type 0) (b : Bool) {x y : A} {x′ y′ : B} → R x x′ → R y y′ → R (cond b x y) (cond b x′ y′)
@@ -43,14 +39,6 @@ or-false-left false b h = refl
 pub or-false-right : (a b : Bool) → (a || b) ≡ false → b ≡ false
 or-false-right true b e = absurd (true≢false e)
 or-false-right false b e = e
-
-pub and-left : (a b : Bool) → (a && b) ≡ true → a ≡ true
-and-left true b h = refl
-and-left false b h = h
-
-pub and-right : (a b : Bool) → (a && b) ≡ true → b ≡ true
-and-right true b h = h
-and-right false b h = absurd (true≢false (sym h))
 
 -- no chip has more words than a step can count
 pub words-most : (P : Profile) → wordsOf P ≤ 96
@@ -92,6 +80,12 @@ pub each-keeps : {A : Type 0} (F : A → Type 0) (f : ℕ → A → A) → ((k :
 each-keeps F f h i k [] d e = e
 each-keeps F f h i zero (x ∷ xs) d e = h i x e
 each-keeps F f h i (suc k) (x ∷ xs) d e = each-keeps F f h (suc i) k xs d e
+
+-- in a list of equal elements each place has that element, and so has every place beyond
+pub all-alike : {A : Type 0} (x : A) (n i : ℕ) → getD (replicate n x) i x ≡ x
+all-alike x zero i = refl
+all-alike x (suc n) zero = refl
+all-alike x (suc n) (suc i) = all-alike x n i
 
 -- at a place of a list with one element changed is the new element or the old one
 pub set-keeps : {A : Type 0} (F : A → Type 0) (xs : List A) (i k : ℕ) (y d : A) → F y → F (getD xs k d) → F (getD (set xs i y) k d)

@@ -1,7 +1,6 @@
--- The chips of specs/Examples.antt are loaded, and its calls are allowed. Assumes nothing.
+-- The chips of specs/Examples.antt are loaded, and its calls are allowed.
 use Prim.Native.Nat.{ℕ, zero, suc}
-use mathlib.Core.Path.{_≡_, refl}
-use lib.ListN.{getD, replicate}
+use mathlib.Core.Path.{refl}
 use Rattle.word.specs.Profile.{LP5523}
 use Rattle.word.specs.Decode.{decodeOf, reading, addressAt}
 use Rattle.word.specs.Field.{inside}
@@ -21,15 +20,10 @@ use Rattle.machine.specs.Interrupts.{readOf}
 use Rattle.machine.specs.Loaded.{UsedEngine, LoadedEngine}
 use Rattle.machine.specs.Calls.{after, nothing, then}
 use Rattle.machine.specs.Examples.{runningFrom, workedChip, tableChip, WorkedLoaded, TableLoaded, CallsAllowed}
-
--- a count that was never stored is 0
-counts-zero : (n a : ℕ) → _≡_ {A = ℕ} (getD (replicate n 0) a 0) 0
-counts-zero zero a = refl
-counts-zero (suc n) zero = refl
-counts-zero (suc n) (suc a) = counts-zero n a
+use Rattle.machine.proofs.Common.{all-alike}
 
 running-used : (first : ℕ) → UsedEngine (addressAt first) (runningFrom first)
-running-used first = record { start = refl; pc = refl; counts = counts-zero 96; between = refl; mode = refl }
+running-used first = record { start = refl; pc = refl; counts = all-alike 0 96; between = refl; mode = refl }
 
 worked-engines : (i : ℕ) → LoadedEngine (planAt LP5523 workedPlan (suc i)) (engineAt LP5523 workedChip i)
 worked-engines zero = running-used 0

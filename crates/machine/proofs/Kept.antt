@@ -29,7 +29,8 @@ use Rattle.machine.specs.declared.Progress.the-variants.{BetweenWords, W
 use Rattle.machine.specs.declared.Pointers.{Pointers}
 use Rattle.machine.specs.declared.Engine.{Engine}
 use Rattle.machine.specs.WordEnd.{pcAfter}
-use Rattle.machine.proofs.Common.{by-test, by-exec, or-left, or-right}
+use Rattle.plan.proofs.Laws.{by-test}
+use Rattle.machine.proofs.Common.{by-exec, or-left, or-right}
 use Rattle.machine.proofs.Closed.{hasTable, topOf, bottomOf}
 
 -- What the invariant reads of an engine. Its run setting, variables, mask, flags and pending triggers are not here: calls may change them.

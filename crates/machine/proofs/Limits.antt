@@ -1,10 +1,10 @@
 -- No call leads out of a chip's limits.
-use Prim.Native.Nat.{ℕ, zero, suc, _+_, _<_}
+use Prim.Native.Nat.{ℕ, _+_, _<_}
 use mathlib.Core.Bool.{Bool, true, false, _||_, false≢true}
 use mathlib.Core.Path.{_≡_, refl, sym, _∙_, ap, subst}
 use native.Mathlib.Omega.{arith}
 use lib.Dec.{leb, ltb, eqb}
-use lib.ListN.{getD, replicate}
+use lib.ListN.{getD}
 use borrow.Author.Tests.{leb-false, ltb-true}
 use Rattle.word.specs.Profile.{Profile, LP5523, wordsOf, enginesOf, pagesOf}
 use Rattle.word.specs.Decode.{addressAt, stepAt}
@@ -29,7 +29,7 @@ use Rattle.machine.specs.Judged.{judged}
 use Rattle.machine.specs.Stored.{prepared, enters, stored}
 use Rattle.machine.specs.Burst.{succeeds}
 use Rattle.machine.specs.Theorems.{EngineWithin, NewChipWithin, StaysWithin, PcWithin, AllPcWithin, NewChipPc, PcStays}
-use Rattle.machine.proofs.Common.{by-cond, or-false-right}
+use Rattle.machine.proofs.Common.{by-cond, or-false-right, all-alike}
 use Rattle.machine.proofs.Calls.{Steps, calls-keep, inside, EngineSteps, EveryEngine, every-engine}
 use Rattle.machine.proofs.Moves.{Core, core, UseWithin, Moves, waits-moves, ramps-moves, triggers-moves, begins-moves}
 
@@ -175,21 +175,15 @@ module _ (P : Profile) where
         byte = page-byte;
       }
 
--- every engine of a new chip is all zero, those beyond the chip's included
-new-engine : (P : Profile) (n i : ℕ) → getD (replicate n (zeroEngine P)) i (zeroEngine P) ≡ zeroEngine P
-new-engine P zero i = refl
-new-engine P (suc n) zero = refl
-new-engine P (suc n) (suc i) = new-engine P n i
-
 pub new-chip-within : NewChipWithin
 new-chip-within P =
     record {
-      engines = λ i. subst (EngineWithin P) (sym (new-engine P (enginesOf P) i)) (record { start = words-positive P; top = words-positive P; bottom = words-positive P; index = words-positive P });
+      engines = λ i. subst (EngineWithin P) (sym (all-alike (zeroEngine P) (enginesOf P) i)) (record { start = words-positive P; top = words-positive P; bottom = words-positive P; index = words-positive P });
       page = pages-positive P;
     }
 
 pub new-chip-pc : NewChipPc
-new-chip-pc P i = subst (PcWithin P) (sym (new-engine P (enginesOf P) i)) (record { most = omega arith; inProgress = λ h. words-positive P })
+new-chip-pc P i = subst (PcWithin P) (sym (all-alike (zeroEngine P) (enginesOf P) i)) (record { most = omega arith; inProgress = λ h. words-positive P })
 
 pub stays-within : StaysWithin
 stays-within P m w k =

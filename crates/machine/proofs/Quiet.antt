@@ -21,7 +21,8 @@ use Rattle.machine.specs.Stored.{stored}
 use Rattle.machine.specs.Burst.{Placed, visited, someUnlisted, succeeds, bytesWritten, burstOf}
 use Rattle.machine.specs.Interrupts.{readOf}
 use Rattle.machine.specs.Calls.{burst, onlySettings, allowed}
-use Rattle.machine.proofs.Common.{by-cond, by-test, each-leaves, and-left, and-right}
+use Rattle.plan.proofs.Laws.{by-test, and-left, and-right}
+use Rattle.machine.proofs.Common.{by-cond, each-leaves}
 use Rattle.machine.proofs.Kept.{core}
 use Rattle.machine.proofs.Refusals.{refused-burst}
 

@@ -4,7 +4,7 @@ use mathlib.Core.Bool.{Bool, true, false, cond}
 use mathlib.Core.List.{List, [], _∷_}
 use mathlib.Core.Path.{_≡_, refl, sym, _∙_, ap, subst}
 use native.Mathlib.Omega.{arith}
-use lib.ListN.{length, getD, replicate, length-replicate}
+use lib.ListN.{length, getD, length-replicate}
 use borrow.Author.Tests.{le-ltb}
 use Rattle.word.specs.Profile.{Profile, enginesOf}
 use Rattle.machine.specs.declared.Chip.{Chip}
@@ -13,7 +13,7 @@ use Rattle.machine.specs.declared.Outcome.the-variants.{Success, TooMany
 use Rattle.machine.specs.Tick.{tick}
 use Rattle.machine.specs.Run.{quiet, tally, oneMore, beatsMore, beginning, mostBeats, runOf}
 use Rattle.machine.specs.Theorems.{ticks, finishedIn, RunIsBeats}
-use Rattle.machine.proofs.Common.{by-cond}
+use Rattle.machine.proofs.Common.{by-cond, all-alike}
 
 -- the counts of words
 tally-length : (bs : List Bool) (ns : List ℕ) → length (tally bs ns) ≡ length ns
@@ -100,12 +100,6 @@ pub run-goes : (P : Profile) (n : ℕ) (m : Chip) → n ≤ mostBeats → runOf 
 unfolding runOf
 run-goes P n m h = ap (λ (b : Bool). cond b (beginning P TooManyBeats m) (beatsMore P n (beginning P Success m))) (le-ltb mostBeats n h)
 
--- no engine has finished a word as a run begins
-none-yet : (n i : ℕ) → _≡_ {A = ℕ} (getD (replicate n 0) i 0) 0
-none-yet zero i = refl
-none-yet (suc n) zero = refl
-none-yet (suc n) (suc i) = none-yet n i
-
 pub run-is-beats : RunIsBeats
 run-is-beats P n m h =
     let w : Went P n (beginning P Success m) (runOf P n m) = subst (λ (s : Ran). Went P n (beginning P Success m) s) (sym (run-goes P n m h)) (went P n (beginning P Success m)) in
@@ -118,9 +112,9 @@ run-is-beats P n m h =
       chip = rw e at (w .chip);
       words = λ i l.
           let g = w .words i (rw length-replicate l) in
-          let z = none-yet (enginesOf P) i in
+          let z = all-alike {A = ℕ} 0 (enginesOf P) i in
           rw e at (let v : getD (runOf P n m .words) i 0 ≡ finishedIn P i (w .done) m = omega arith in v);
-      fewer = λ i. let g = w .fewer i in let z = none-yet (enginesOf P) i in omega arith;
+      fewer = λ i. let g = w .fewer i in let z = all-alike {A = ℕ} 0 (enginesOf P) i in omega arith;
     }
 
 -- a run under way: what is left to do from r on gives the whole run's answer

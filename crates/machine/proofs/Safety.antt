@@ -34,7 +34,8 @@ use Rattle.machine.specs.Calls.{Call, beat, run, burst, readInterrupts, 
 use Rattle.machine.specs.Trace.{Seen, Trace, begun, withChip, traceTurn, traceTurns, traceTickIf, traceTick, traceTicks, traceCall, traceOf}
 use Rattle.machine.specs.Safe.{wordAddress, endedAt, everEnded, PointsInside, TableSafe, FetchSafe, TurnSafe, Safe, none, more}
 use Rattle.machine.specs.Theorems.{Demand3}
-use Rattle.machine.proofs.Common.{by-cond, by-test, both, each-leaves, and-left}
+use Rattle.plan.proofs.Laws.{by-test, and-left}
+use Rattle.machine.proofs.Common.{by-cond, both, each-leaves}
 use Rattle.machine.proofs.Closed.{isUsed, hasTable, Closed, accepted-closed}
 use Rattle.machine.proofs.Kept.{Core, core, Under, TableKept, Kept}
 use Rattle.machine.proofs.WordsKept.{good, no-return, same-address, fetched-word, beat-fine}

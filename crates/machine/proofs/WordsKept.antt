@@ -8,7 +8,7 @@ use native.Mathlib.Omega.{arith}
 use native.Mathlib.Nat.{eq-zero-or-pos}
 use lib.Bits.{bitAnd}
 use lib.Dec.{leb, ltb, eqb}
-use lib.ListN.{length, getD, set, replicate, getD-replicate, List·getD-eq-default, length-replicate}
+use lib.ListN.{length, getD, set}
 use lib.Seq.{getD-set-same, getD-set-other, set-out}
 use borrow.Author.Tests.{ltb-true, ltb-false, eqb-true, eqb-false, lt-ltb}
 use Rattle.word.specs.Profile.{Profile, wordsOf}
@@ -40,19 +40,10 @@ use Rattle.machine.specs.Triggers.{triggers}
 use Rattle.machine.specs.TablePointers.{pointed, points}
 use Rattle.machine.specs.Words.{stops, begins}
 use Rattle.machine.specs.Turn.{addressOf, returned, fetched, starts, beatOf}
-use Rattle.machine.proofs.Common.{by-cond, by-test, words-most, or-false-left}
+use Rattle.plan.proofs.Laws.{by-test}
+use Rattle.machine.proofs.Common.{by-cond, words-most, or-false-left, all-alike}
 use Rattle.machine.proofs.Closed.{hasTable, topOf, bottomOf, start-top, end-bottom, row-inside, SoundWord, Closed}
 use Rattle.machine.proofs.Kept.{core, ended, lasting, Plain, lasting-plain, Under, endless, Points, Kept, TableEnds, firstThen, secondThen, ends-kept}
-
--- Counts that are all zero.
-abbrev zeros : ℕ → List ℕ
-zeros n = replicate n 0
-
-pub zeros-zero : (n a : ℕ) → getD (zeros n) a 0 ≡ 0
-zeros-zero n a =
-    by-test (ltb a n)
-    (λ h. getD-replicate n a 0 0 (ltb-true a n h))
-    (λ h. List·getD-eq-default (zeros n) 0 (let l : n ≤ a = ltb-false a n h in rw length-replicate l))
 
 -- A branch's successors: its target, and the next word where it may go on.
 loop-target : (R : ℕ → Type 0) (first a c : ℕ) (s : Step) → AllIn R (successorsOf first a (Loop c s)) → R (first + s .0)
@@ -269,7 +260,7 @@ module _ (P : Profile) (q : EnginePlan) (image : List ℕ) (R : ℕ → Type 0) 
   stops-fine c int reset w is u =
       still-kept w (e .exec) (cond reset (stepAt 0) (e .pc)) (cond reset (zeroCounts P) (e .loops)) is u
       (by-cond (λ (n : Step). R (firstOf q + n .0)) reset (λ y. home-in) (λ y. K .inside))
-      (λ a k. by-cond (λ (ks : List ℕ). getD ks a 0 ≡ 0) reset (λ y. zeros-zero (wordsOf P) a) (λ y. K .counts a k))
+      (λ a k. by-cond (λ (ks : List ℕ). getD ks a 0 ≡ 0) reset (λ y. all-alike 0 (wordsOf P) a) (λ y. K .counts a k))
 
   -- PC after a jump, taken or not.
   jump-in : (taken : Bool) (k : ℕ) → R (here + 1) → R (here + 1 + k) → R (firstOf q + jumpTo (e .pc) taken k .0)
@@ -282,7 +273,7 @@ module _ (P : Profile) (q : EnginePlan) (image : List ℕ) (R : ℕ → Type 0) 
   -- A word's first beat.
   begins-fine : (m : Chip) (w : Word) → word ≡ w → SoundWord q R here w → Fine (begins P (m .c) (m .d) (m .memory) e (addressOf (e .start) (e .pc)) w)
   unfolding finish begins assigns
-  begins-fine m Rst is s = still-kept Rst (e .exec) (stepAt 0) (zeroCounts P) is refl home-in (λ a k. zeros-zero (wordsOf P) a)
+  begins-fine m Rst is s = still-kept Rst (e .exec) (stepAt 0) (zeroCounts P) is refl home-in (λ a k. all-alike 0 (wordsOf P) a)
   begins-fine m (Ramp p t d n) is s = ramps-from-fine (m .c) d (beatsOf p t) n (ap lasting is)
   begins-fine m (Wait p t) is s = waits-fine (m .c) (beatsOf p t) (ap lasting is)
   begins-fine m (Set n) is s = plain-kept (Set n) (e .exec) is (record { flow = refl; tableUse = refl })

@@ -15,7 +15,8 @@ use Rattle.machine.specs.Parts.{pointers, withMask, withTable}
 use Rattle.machine.specs.Outputs.{maskOf}
 use Rattle.machine.specs.WordEnd.{goesOn}
 
--- The index after next: at the bottom, or at the memory's last word, the top.
+-- The index after next: at the bottom, or at the memory's last word, the top. Past the last word, where no chip's index lies, it is the top
+-- too.
 abbrev pub nextIndex : Profile → Pointers → ℕ
 nextIndex P t = cond (eqb (t .index .0) (t .bottom .0) || leb (wordsOf P) (t .index .0 + 1)) (t .top .0) (t .index .0 + 1)
 

@@ -50,7 +50,7 @@ acts e = isRun (e .mode) && (midWord (e .progress) || not (isHold (e .exec)))
 abbrev pub fetches : Engine → Bool
 fetches e = acts e && not (midWord (e .progress))
 
--- The address of the word at PC: the one place where a step is added to an address.
+-- The address of the word at PC: the one place of the machine where a step is added to an address.
 abbrev pub addressOf : Address → Step → ℕ
 addressOf start pc = start .0 + pc .0
 

@@ -14,7 +14,7 @@ use Rattle.machine.specs.declared.Effect.the-variants.{Keep}
 use Rattle.machine.specs.declared.Act.{Act}
 use Rattle.machine.specs.Parts.{withPc, withExec, withProgress}
 
--- PC moved on by n. A PC is a number of 16 bits; from a PC within 127 none is ever lost (`PcStays` in specs/Theorems.antt).
+-- PC moved on by n. A PC is a number of 16 bits; where `PcWithin` holds it never wraps (`PcStays`, specs/Theorems.antt).
 abbrev pub advance : Step → ℕ → Step
 advance s n = stepAt ((s .0 + n) % 65536)
 

@@ -13,9 +13,9 @@ use Rattle.plan.specs.declared.EnginePlan.the-variants.{Unused, Code, Co
 use Rattle.plan.specs.declared.Plan.{Plan}
 use Rattle.plan.specs.declared.Verdict.{Verdict}
 use Rattle.plan.specs.Ranges.{planAt, InRange, InCode, InTable, upward, addresses, codeAddresses, tableAddresses}
-use Rattle.plan.specs.Conditions.{AllIn, Condition}
+use Rattle.plan.specs.Conditions.{AllIn}
 use Rattle.plan.specs.Check.{engineNumbers, joined}
-use Rattle.plan.specs.Theorems.{AllMet}
+use Rattle.plan.specs.Theorems.{AllOf}
 use Rattle.plan.proofs.Laws.{by-test}
 
 -- lists of numbers
@@ -68,27 +68,27 @@ engine-all R u LP5523 p h (suc (suc (suc zero))) = h .1 .1 .0
 engine-all R u LP5523 p h (suc (suc (suc (suc i)))) = u
 
 -- lists of verdicts
-module _ (P : Profile) (p : Plan) (image : List ℕ) where
-  pub met-append : (xs ys : List Verdict) → AllMet P p image (xs ++ ys) ↔ (AllMet P p image xs × AllMet P p image ys)
+module _ (F : Verdict → Type 0) where
+  pub met-append : (xs ys : List Verdict) → AllOf F (xs ++ ys) ↔ (AllOf F xs × AllOf F ys)
   met-append [] ys = (λ h. (tt, h), λ h. h .1)
   met-append (x ∷ xs) ys = let r = met-append xs ys in (
     λ h. ((h .0, r .0 (h .1) .0), r .0 (h .1) .1),
     λ h. (h .0 .0, r .1 (h .0 .1, h .1)),
   )
 
-  pub met-map : (g : ℕ → Verdict) (xs : List ℕ) → AllMet P p image (map g xs) ↔ AllIn (λ x. Condition P p image (g x)) xs
+  pub met-map : (g : ℕ → Verdict) (xs : List ℕ) → AllOf F (map g xs) ↔ AllIn (λ x. F (g x)) xs
   met-map g [] = (λ h. tt, λ h. tt)
   met-map g (x ∷ xs) = let r = met-map g xs in (λ h. (h .0, r .0 (h .1)), λ h. (h .0, r .1 (h .1)))
 
-  pub met-joined : (g : ℕ → List Verdict) (xs : List ℕ) → AllMet P p image (joined g xs) ↔ AllIn (λ x. AllMet P p image (g x)) xs
+  pub met-joined : (g : ℕ → List Verdict) (xs : List ℕ) → AllOf F (joined g xs) ↔ AllIn (λ x. AllOf F (g x)) xs
   met-joined g [] = (λ h. tt, λ h. tt)
   met-joined g (x ∷ xs) = let r = met-joined g xs in (
     λ h. let s = met-append (g x) (joined g xs) .0 h in (s .0, r .0 (s .1)),
     λ h. met-append (g x) (joined g xs) .1 (h .0, r .1 (h .1)),
   )
 
-  pub over-code : (g : ℕ → List Verdict) (q : EnginePlan) → AllMet P p image (joined g (codeAddresses q)) ↔ ((a : ℕ) → InCode q a → AllMet P p image (g a))
-  over-code g q = Iff·trans (met-joined g (codeAddresses q)) (code-all (λ a. AllMet P p image (g a)) q)
+  pub over-code : (g : ℕ → List Verdict) (q : EnginePlan) → AllOf F (joined g (codeAddresses q)) ↔ ((a : ℕ) → InCode q a → AllOf F (g a))
+  over-code g q = Iff·trans (met-joined g (codeAddresses q)) (code-all (λ a. AllOf F (g a)) q)
 
-  pub over-table : (g : ℕ → List Verdict) (q : EnginePlan) → AllMet P p image (joined g (tableAddresses q)) ↔ ((a : ℕ) → InTable q a → AllMet P p image (g a))
-  over-table g q = Iff·trans (met-joined g (tableAddresses q)) (table-all (λ a. AllMet P p image (g a)) q)
+  pub over-table : (g : ℕ → List Verdict) (q : EnginePlan) → AllOf F (joined g (tableAddresses q)) ↔ ((a : ℕ) → InTable q a → AllOf F (g a))
+  over-table g q = Iff·trans (met-joined g (tableAddresses q)) (table-all (λ a. AllOf F (g a)) q)

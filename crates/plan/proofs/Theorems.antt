@@ -3,7 +3,7 @@ use Prim.Native.Nat.{ℕ}
 use mathlib.Core.Bool.{true, true≢false}
 use mathlib.Core.List.{List, [], _∷_, map, _++_}
 use mathlib.Core.Logic.{_↔_, Iff·trans}
-use mathlib.Core.Path.{_≡_, refl, sym, _∙_}
+use mathlib.Core.Path.{_≡_, refl, sym, subst, _∙_}
 use lib.ListN.{getD}
 use Rattle.word.specs.Profile.{Profile}
 use Rattle.word.specs.Classes.{tableUseOf}
@@ -14,10 +14,10 @@ use Rattle.plan.specs.declared.Plan.{Plan}
 use Rattle.plan.specs.declared.Verdict.{Verdict}
 use Rattle.plan.specs.declared.Verdict.the-variants.{OutOfOrder, CodeMeetsTable, TableNotOpened}
 use Rattle.plan.specs.Ranges.{planAt, InCode, InTable, firstOf, codeAddresses, tableAddresses}
-use Rattle.plan.specs.Conditions.{wordAt, InOrder, Apart, Defined, AllIn, SuccessorsInside, UsesOwnTable, OpensTable, RowClear, Accepted}
+use Rattle.plan.specs.Conditions.{wordAt, InOrder, Apart, Defined, AllIn, SuccessorsInside, UsesOwnTable, OpensTable, RowClear, Accepted, Condition}
 use Rattle.plan.specs.Tests.{holds}
 use Rattle.plan.specs.Check.{engineNumbers, joined, ofWord, ofRow, ofEngine, verdictsOf, checkOf}
-use Rattle.plan.specs.Theorems.{AcceptsExactly, AllMet, RefusesFirst}
+use Rattle.plan.specs.Theorems.{AcceptsExactly, AllOf, Located, RefusesFirst}
 use Rattle.plan.proofs.First.{allHold, first-none, first-all, first-splits}
 use Rattle.plan.proofs.Tests.{both, tests-exactly}
 use Rattle.plan.proofs.Lists.{all-map, all-given, engine-all, met-append, met-map, met-joined, over-code, over-table}
@@ -29,7 +29,7 @@ record Good (P : Profile) (image : List ℕ) (q : EnginePlan) : Type 0 where
   rows : (a : ℕ) → InTable q a → RowClear P (getD image a 0)
 
 module _ (P : Profile) (p : Plan) (image : List ℕ) where
-  all-met : (vs : List Verdict) → (allHold (holds P p image) vs ≡ true) ↔ AllMet P p image vs
+  all-met : (vs : List Verdict) → (allHold (holds P p image) vs ≡ true) ↔ AllOf (Condition P p image) vs
   all-met [] = (λ e. tt, λ h. refl)
   all-met (v ∷ vs) = both (holds P p image v) (allHold (holds P p image) vs) (tests-exactly P p image v) (all-met vs)
 
@@ -40,19 +40,19 @@ module _ (P : Profile) (p : Plan) (image : List ℕ) where
   abbrev rowsPart : ℕ → List Verdict
   rowsPart i = TableNotOpened i (addressAt (firstOf (planAt P p i))) ∷ joined (ofRow i) (tableAddresses (planAt P p i))
 
-  engine-met : (i : ℕ) → AllMet P p image (ofEngine (planAt P p i) i) ↔ Good P image (planAt P p i)
+  engine-met : (i : ℕ) → AllOf (Condition P p image) (ofEngine (planAt P p i) i) ↔ Good P image (planAt P p i)
   engine-met i = (
     λ h.
-        let s = met-append P p image (wordsPart i) (rowsPart i) .0 h in
+        let s = met-append (Condition P p image) (wordsPart i) (rowsPart i) .0 h in
         record {
-          words = λ a c. let w = over-code P p image (ofWord i) (planAt P p i) .0 (s .0) a c in (w .0, w .1 .0, w .1 .1 .0);
+          words = λ a c. let w = over-code (Condition P p image) (ofWord i) (planAt P p i) .0 (s .0) a c in (w .0, w .1 .0, w .1 .1 .0);
           opens = s .1 .0;
-          rows = λ a t. over-table P p image (ofRow i) (planAt P p i) .0 (s .1 .1) a t .0;
+          rows = λ a t. over-table (Condition P p image) (ofRow i) (planAt P p i) .0 (s .1 .1) a t .0;
         },
     λ g.
-        met-append P p image (wordsPart i) (rowsPart i) .1 (
-          over-code P p image (ofWord i) (planAt P p i) .1 (λ a c. let w = g .words a c in (w .0, (w .1, (w .2, tt)))),
-          (g .opens, over-table P p image (ofRow i) (planAt P p i) .1 (λ a t. (g .rows a t, tt))),
+        met-append (Condition P p image) (wordsPart i) (rowsPart i) .1 (
+          over-code (Condition P p image) (ofWord i) (planAt P p i) .1 (λ a c. let w = g .words a c in (w .0, (w .1, (w .2, tt)))),
+          (g .opens, over-table (Condition P p image) (ofRow i) (planAt P p i) .1 (λ a t. (g .rows a t, tt))),
         ),
   )
 
@@ -66,27 +66,27 @@ module _ (P : Profile) (p : Plan) (image : List ℕ) where
   abbrev engines : List Verdict
   engines = joined (λ i. ofEngine (planAt P p i) i) (engineNumbers P)
 
-  engines-met : AllMet P p image engines ↔ ((i : ℕ) → Good P image (planAt P p i))
+  engines-met : AllOf (Condition P p image) engines ↔ ((i : ℕ) → Good P image (planAt P p i))
   engines-met = (
     λ h. engine-all (Good P image) unused P p (all-map (λ i. engine-met i .0) (engineNumbers P) (each .0 h)),
     λ g. each .1 (all-given (λ i. engine-met i .1 (g i)) (engineNumbers P)),
   )
     where
-      each : AllMet P p image engines ↔ AllIn (λ i. AllMet P p image (ofEngine (planAt P p i) i)) (engineNumbers P)
-      each = met-joined P p image (λ i. ofEngine (planAt P p i) i) (engineNumbers P)
+      each : AllOf (Condition P p image) engines ↔ AllIn (λ i. AllOf (Condition P p image) (ofEngine (planAt P p i) i)) (engineNumbers P)
+      each = met-joined (Condition P p image) (λ i. ofEngine (planAt P p i) i) (engineNumbers P)
 
       unused : Good P image Unused
       unused = record { words = λ a c. absurd c; opens = tt; rows = λ a c. absurd c }
 
-  accepted : AllMet P p image (verdictsOf P p) → Accepted P p image
+  accepted : AllOf (Condition P p image) (verdictsOf P p) → Accepted P p image
   accepted h =
-      let s = met-append P p image (orders ++ meetings) engines .0 (h .1) in
-      let t = met-append P p image orders meetings .0 (s .0) in
+      let s = met-append (Condition P p image) (orders ++ meetings) engines .0 (h .1) in
+      let t = met-append (Condition P p image) orders meetings .0 (s .0) in
       let good = engines-met .0 (s .1) in
       record {
         complete = h .0;
-        inOrder = engine-all (InOrder P) tt P p (met-map P p image OutOfOrder (engineNumbers P) .0 (t .0));
-        apart = engine-all (Apart P p) (λ i a c. absurd c) P p (met-map P p image CodeMeetsTable (engineNumbers P) .0 (t .1));
+        inOrder = engine-all (InOrder P) tt P p (met-map (Condition P p image) OutOfOrder (engineNumbers P) .0 (t .0));
+        apart = engine-all (Apart P p) (λ i a c. absurd c) P p (met-map (Condition P p image) CodeMeetsTable (engineNumbers P) .0 (t .1));
         defined = λ i a c. good i .words a c .0;
         successors = λ i a c. good i .words a c .1;
         tableUse = λ i a c. good i .words a c .2;
@@ -94,16 +94,31 @@ module _ (P : Profile) (p : Plan) (image : List ℕ) where
         rowsClear = λ i. good i .rows;
       }
 
-  met : Accepted P p image → AllMet P p image (verdictsOf P p)
+  met : Accepted P p image → AllOf (Condition P p image) (verdictsOf P p)
   met A =
-      let o = met-map P p image OutOfOrder (engineNumbers P) .1 (all-given (A .inOrder) (engineNumbers P)) in
-      let m = met-map P p image CodeMeetsTable (engineNumbers P) .1 (all-given (A .apart) (engineNumbers P)) in
+      let o = met-map (Condition P p image) OutOfOrder (engineNumbers P) .1 (all-given (A .inOrder) (engineNumbers P)) in
+      let m = met-map (Condition P p image) CodeMeetsTable (engineNumbers P) .1 (all-given (A .apart) (engineNumbers P)) in
       let e = engines-met .1 (λ i. record {
         words = λ a c. (A .defined i a c, A .successors i a c, A .tableUse i a c);
         opens = A .opensTable i;
         rows = A .rowsClear i;
       }) in
-      (A .complete, met-append P p image (orders ++ meetings) engines .1 (met-append P p image orders meetings .1 (o, m), e))
+      (A .complete, met-append (Condition P p image) (orders ++ meetings) engines .1 (met-append (Condition P p image) orders meetings .1 (o, m), e))
+
+  -- each verdict of the order has an address of its engine
+  engine-located : (i : ℕ) → AllOf (Located P p) (ofEngine (planAt P p i) i)
+  engine-located i =
+      met-append (Located P p) (wordsPart i) (rowsPart i) .1 (
+        over-code (Located P p) (ofWord i) (planAt P p i) .1 (λ a c. (c, (c, (c, tt)))),
+        (refl, over-table (Located P p) (ofRow i) (planAt P p i) .1 (λ a t. (t, tt))),
+      )
+
+  all-located : AllOf (Located P p) (verdictsOf P p)
+  all-located =
+      let o = met-map (Located P p) OutOfOrder (engineNumbers P) .1 (all-given (λ i. tt) (engineNumbers P)) in
+      let m = met-map (Located P p) CodeMeetsTable (engineNumbers P) .1 (all-given (λ i. tt) (engineNumbers P)) in
+      let e = met-joined (Located P p) (λ i. ofEngine (planAt P p i) i) (engineNumbers P) .1 (all-given engine-located (engineNumbers P)) in
+      (tt, met-append (Located P p) (orders ++ meetings) engines .1 (met-append (Located P p) orders meetings .1 (o, m), e))
 
 -- 1
 pub accepts-exactly : AcceptsExactly
@@ -122,5 +137,6 @@ refuses-first P p image v e n =
       after = s .after;
       place = s .place;
       earlier = all-met P p image (s .before) .0 (s .earlier);
+      address = met-append (Located P p) (s .before) (v ∷ s .after) .0 (subst (AllOf (Located P p)) (s .place) (all-located P p image)) .1 .0;
       fails = λ c. true≢false (sym (tests-exactly P p image v .1 c) ∙ s .fails);
     }

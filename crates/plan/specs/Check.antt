@@ -16,6 +16,7 @@ use Rattle.plan.specs.Tests.{holds}
 abbrev pub engineNumbers : Profile → List ℕ
 engineNumbers LP5523 = 1 ∷ 2 ∷ 3 ∷ []
 
+-- What f gives at each number of a list, in order.
 abbrev pub joined : (ℕ → List Verdict) → List ℕ → List Verdict
 joined f [] = []
 joined f (x ∷ xs) = f x ++ joined f xs

@@ -7,7 +7,8 @@ use mathlib.Core.Path.{_≡_}
 use Rattle.word.specs.Profile.{Profile}
 use Rattle.plan.specs.declared.Plan.{Plan}
 use Rattle.plan.specs.declared.Verdict.{Verdict}
-use Rattle.plan.specs.declared.Verdict.the-variants.{Accept}
+use Rattle.plan.specs.declared.Verdict.the-variants.{Accept, WrongLength, OutOfOrder, CodeMeetsTable, UndefinedWord, SuccessorOutside, TableMisused, TableNotOpened, ReservedRowBit}
+use Rattle.plan.specs.Ranges.{planAt, firstOf, InCode, InTable}
 use Rattle.plan.specs.Conditions.{Accepted, Condition}
 use Rattle.plan.specs.Tests.{holds}
 use Rattle.plan.specs.Check.{verdictsOf, checkOf}
@@ -20,16 +21,30 @@ TestsExactly = (P : Profile) (p : Plan) (image : List ℕ) (v : Verdict) → (ho
 abbrev pub AcceptsExactly : Type 0
 AcceptsExactly = (P : Profile) (p : Plan) (image : List ℕ) → (checkOf P p image ≡ Accept) ↔ Accepted P p image
 
-abbrev pub AllMet : Profile → Plan → List ℕ → List Verdict → Type 0
-AllMet P p image [] = Unit {0}
-AllMet P p image (v ∷ vs) = Condition P p image v × AllMet P p image vs
+-- What holds of every verdict of a list.
+abbrev pub AllOf : (Verdict → Type 0) → List Verdict → Type 0
+AllOf F [] = Unit {0}
+AllOf F (v ∷ vs) = F v × AllOf F vs
+
+-- What the address of a verdict is to its engine: a code address for 13 to 15, the first one for 16, a row for 17.
+abbrev pub Located : Profile → Plan → Verdict → Type 0
+Located P p Accept = Unit {0}
+Located P p WrongLength = Unit {0}
+Located P p (OutOfOrder i) = Unit {0}
+Located P p (CodeMeetsTable i) = Unit {0}
+Located P p (UndefinedWord i a) = InCode (planAt P p i) (a .0)
+Located P p (SuccessorOutside i a) = InCode (planAt P p i) (a .0)
+Located P p (TableMisused i a) = InCode (planAt P p i) (a .0)
+Located P p (TableNotOpened i a) = a .0 ≡ firstOf (planAt P p i)
+Located P p (ReservedRowBit i a) = InTable (planAt P p i) (a .0)
 
 -- 2. A refusal names the first failure: its condition is not met at its engine and address, and every condition before it in the order is.
 pub record FirstFailure (P : Profile) (p : Plan) (image : List ℕ) (v : Verdict) : Type 0 where
   pub before : List Verdict
   pub after : List Verdict
   pub place : verdictsOf P p ≡ before ++ (v ∷ after)
-  pub earlier : AllMet P p image before
+  pub earlier : AllOf (Condition P p image) before
+  pub address : Located P p v
   pub fails : Condition P p image v → ⊥
 
 abbrev pub RefusesFirst : Type 0

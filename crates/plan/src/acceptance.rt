@@ -3,7 +3,7 @@ use crate::Verdict;
 ghost use mathlib.Core.Path.{_≡_};
 ghost use Rattle.plan.specs.Passes.{isAccept};
 
-pub fn is_accept(verdict: Verdict) -> bool
+pub(super) fn is_accept(verdict: Verdict) -> bool
     ensures { λ r. ⌜ r ≡ isAccept verdict ⌝ }
 {
     if let Verdict::Accept = verdict {

@@ -71,7 +71,7 @@ fn meets_some(plan: Plan, q: EnginePlan) -> bool
 }
 
 // 12, engine by engine.
-pub fn check_apart(plan: Plan) -> Verdict
+pub(super) fn check_apart(plan: Plan) -> Verdict
     ensures { λ r. ⌜ r ≡ apartVerdict LP5523 plan ⌝ }
 {
     let q1 = plan.engine1;

@@ -9,7 +9,7 @@ use word::Word;
 ghost use mathlib.Core.Path.{_≡_};
 ghost use Rattle.word.specs.Classes.{flowOf, useAt, useMove, tableUseOf};
 
-pub fn flow_of(word: Word) -> Flow
+pub(super) fn flow_of(word: Word) -> Flow
     ensures { λ r. ⌜ r ≡ flowOf word ⌝ }
 {
     match word {
@@ -56,7 +56,7 @@ fn use_move(op: MuxMoveOp) -> TableUse
     }
 }
 
-pub fn table_use_of(word: Word) -> TableUse
+pub(super) fn table_use_of(word: Word) -> TableUse
     ensures { λ r. ⌜ r ≡ tableUseOf word ⌝ }
 {
     match word {

@@ -42,7 +42,7 @@ fn in_order(q: EnginePlan) -> bool
 }
 
 // 11, engine by engine.
-pub fn check_order(plan: Plan) -> Verdict
+pub(super) fn check_order(plan: Plan) -> Verdict
     ensures { λ r. ⌜ r ≡ orderVerdict LP5523 plan ⌝ }
 {
     let q1 = plan.engine1;

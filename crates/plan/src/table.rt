@@ -84,7 +84,7 @@ fn check_rows(engine: u16, image: &[u16], top: u16, bottom: u16) -> Verdict
 }
 
 // 16 and 17.
-pub fn check_table(q: EnginePlan, engine: u16, image: &[u16]) -> Verdict
+pub(super) fn check_table(q: EnginePlan, engine: u16, image: &[u16]) -> Verdict
     requires { ⌜ (length (now image) ≡ 96) × (inOrder LP5523 q ≡ true) ⌝ }
     ensures { λ r. ⌜ r ≡ tableVerdict LP5523 q engine (now (image .entry)) ⌝ }
 {

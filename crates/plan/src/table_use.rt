@@ -39,7 +39,7 @@ fn no_use(usage: TableUse) -> bool
     }
 }
 
-pub fn uses_own_table(q: EnginePlan, usage: TableUse) -> bool
+pub(super) fn uses_own_table(q: EnginePlan, usage: TableUse) -> bool
     ensures { λ r. ⌜ r ≡ usesOwnTable q usage ⌝ }
 {
     match q {

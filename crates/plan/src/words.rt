@@ -59,7 +59,7 @@ fn check_words(q: EnginePlan, engine: u16, image: &[u16], first: u16, last: u16)
     Verdict::Accept
 }
 
-pub fn check_code(q: EnginePlan, engine: u16, image: &[u16]) -> Verdict
+pub(super) fn check_code(q: EnginePlan, engine: u16, image: &[u16]) -> Verdict
     requires { ⌜ (length (now image) ≡ 96) × (inOrder LP5523 q ≡ true) ⌝ }
     ensures { λ r. ⌜ r ≡ codeVerdict LP5523 q engine (now (image .entry)) ⌝ }
 {
