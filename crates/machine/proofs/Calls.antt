@@ -91,7 +91,7 @@ module _ (P : Profile) (G : Chip → Type 0) (S : Steps P G) where
 -- engines
 -- what may happen to an engine keeps F: a beat of its own, a trigger, an interrupt read, and what the host writes to it
 pub record EngineSteps (P : Profile) (F : Engine → Type 0) : Type 0 where
-  pub acted : (m : Chip) (e : Engine) → F e → F (beatOf P m e (e .progress) .own)
+  pub acted : (m : Chip) (e : Engine) → F e → F (beatOf P (m .c) (m .d) (m .memory) e (e .progress) .own)
   pub pending : (n : ℕ) (e : Engine) → F e → F (withPending n e)
   pub read : (e : Engine) → F e → F (withInterrupt false e)
   pub setting : (x : Exec) (e : Engine) → F e → F (withExec x e)
@@ -125,7 +125,7 @@ module _ (P : Profile) (F : Engine → Type 0) (S : EngineSteps P F) where
   turn-keeps i m g = go (acts (engineAt P m i))
     where
       act : Act
-      act = beatOf P m (engineAt P m i) (engineAt P m i .progress)
+      act = beatOf P (m .c) (m .d) (m .memory) (engineAt P m i) (engineAt P m i .progress)
 
       go : (b : Bool) → EveryEngine P F (turnIf P i m b .chip)
       go true =

@@ -42,7 +42,7 @@ unfolding turn
 frame P i m = go (acts (engineAt P m i))
   where
     go : (b : Bool) → Framed P i m (turnIf P i m b .chip)
-    go true = applied-frame P i m (beatOf P m (engineAt P m i) (engineAt P m i .progress))
+    go true = applied-frame P i m (beatOf P (m .c) (m .d) (m .memory) (engineAt P m i) (engineAt P m i .progress))
     go false = record { engines = λ j h. refl; outputs = λ k h. refl }
 
 pub others-kept : OthersKept

@@ -95,14 +95,14 @@ module _ (P : Profile) where
       }
 
   -- a fetch: past the memory PC becomes 0 first, so PC is in the memory
-  fetch-moves : (m : Chip) (e f : Engine) → f .pc .0 < wordsOf P → f .start ≡ e .start → f .table ≡ e .table → Moves P (PcWithin P e) e (core (starts P m f .own))
+  fetch-moves : (m : Chip) (e f : Engine) → f .pc .0 < wordsOf P → f .start ≡ e .start → f .table ≡ e .table → Moves P (PcWithin P e) e (core (starts P (m .c) (m .d) (m .memory) f .own))
   fetch-moves m e f l s t =
       given (f .pc .0 < wordsOf P) e f _ (λ w. l) s t
       (begins-moves P f (m .c) (m .d) (m .memory) (addressOf (f .start) (f .pc)) (getD (m .memory) (addressOf (f .start) (f .pc)) 0) _ refl)
 
-  fetched-moves : (m : Chip) (e : Engine) → Moves P (PcWithin P e) e (core (starts P m (returned P e) .own))
+  fetched-moves : (m : Chip) (e : Engine) → Moves P (PcWithin P e) e (core (starts P (m .c) (m .d) (m .memory) (returned P e) .own))
   fetched-moves m e =
-      by-cond (λ (f : Engine). Moves P (PcWithin P e) e (core (starts P m f .own))) (ltb (addressOf (e .start) (e .pc)) (wordsOf P))
+      by-cond (λ (f : Engine). Moves P (PcWithin P e) e (core (starts P (m .c) (m .d) (m .memory) f .own))) (ltb (addressOf (e .start) (e .pc)) (wordsOf P))
       (λ h. fetch-moves m e e (let l = ltb-true (addressOf (e .start) (e .pc)) (wordsOf P) h in omega arith) refl refl)
       (λ h. fetch-moves m e (withPc (stepAt 0) e) (words-positive P) refl refl)
 
@@ -110,7 +110,7 @@ module _ (P : Profile) where
   goes-on : (e : Engine) (k : Core) → midWord (e .progress) ≡ true → Moves P (e .pc .0 < wordsOf P) e k → Moves P (PcWithin P e) e k
   goes-on e k h = given (e .pc .0 < wordsOf P) e e k (λ w. w .inProgress h) refl refl
 
-  acted-moves : (m : Chip) (e : Engine) (p : Progress) → midWord (e .progress) ≡ midWord p → Moves P (PcWithin P e) e (core (beatOf P m e p .own))
+  acted-moves : (m : Chip) (e : Engine) (p : Progress) → midWord (e .progress) ≡ midWord p → Moves P (PcWithin P e) e (core (beatOf P (m .c) (m .d) (m .memory) e p .own))
   unfolding beatOf
   acted-moves m e BetweenWords h = fetched-moves m e
   acted-moves m e (Waiting n) h = goes-on e _ h (waits-moves P e (m .c) n)
@@ -122,7 +122,7 @@ module _ (P : Profile) where
       ((v : ℕ) (e : Engine) → v < wordsOf P → F e → F (withStart (addressAt v) e)) → EngineSteps P F
   moves-steps F k s =
       record {
-        acted = λ m e. k e (beatOf P m e (e .progress) .own) (acted-moves m e (e .progress) refl);
+        acted = λ m e. k e (beatOf P (m .c) (m .d) (m .memory) e (e .progress) .own) (acted-moves m e (e .progress) refl);
         pending = λ n e. k e (withPending n e) (rests e);
         read = λ e. k e (withInterrupt false e) (rests e);
         setting = λ x e. k e (withExec x e) (rests e);

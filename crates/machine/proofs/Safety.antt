@@ -46,7 +46,7 @@ pub turn-rests : (P : Profile) (i : ℕ) (m : Chip) → acts (engineAt P m i) �
 unfolding turn
 turn-rests P i m h = ap (turnIf P i m) h
 
-pub turn-acts : (P : Profile) (i : ℕ) (m : Chip) → acts (engineAt P m i) ≡ true → turn P i m ≡ applied P i m (beatOf P m (engineAt P m i) (engineAt P m i .progress))
+pub turn-acts : (P : Profile) (i : ℕ) (m : Chip) → acts (engineAt P m i) ≡ true → turn P i m ≡ applied P i m (beatOf P (m .c) (m .d) (m .memory) (engineAt P m i) (engineAt P m i .progress))
 unfolding turn
 turn-acts P i m h = ap (turnIf P i m) h
 
@@ -143,7 +143,7 @@ module _ (P : Profile) (p : Plan) (image : List ℕ) (R : ℕ → ℕ → Type 0
   same-word e h = by-cond (λ (a : ℕ). a ≡ addressOf (e .start) (e .pc)) (midWord (e .progress)) (λ z. refl) (λ z. ap (λ (u : Engine). addressOf (u .start) (u .pc)) h)
 
   ended-own : (i a : ℕ) (m : Chip) → acts (engineAt P m i) ≡ true → returned P (engineAt P m i) ≡ engineAt P m i →
-      endedAt P i a (record { engine = i; chip = m }) ≡ (beatOf P m (engineAt P m i) (engineAt P m i .progress) .ended && eqb (addressOf (engineAt P m i .start) (engineAt P m i .pc)) a)
+      endedAt P i a (record { engine = i; chip = m }) ≡ (beatOf P (m .c) (m .d) (m .memory) (engineAt P m i) (engineAt P m i .progress) .ended && eqb (addressOf (engineAt P m i .start) (engineAt P m i .pc)) a)
   ended-own i a m h k = rw (eq-eqb i i refl, turn-acts P i m h, same-word (engineAt P m i) k)
 
   kept-at : (j : ℕ) {f f′ g g′ : Bool} {k k′ : Core} → f ≡ f′ → g ≡ g′ → k ≡ k′ → Kept P (planOf j) image (R j) f′ g′ k′ → Kept P (planOf j) image (R j) f g k
@@ -168,7 +168,7 @@ module _ (P : Profile) (p : Plan) (image : List ℕ) (R : ℕ → ℕ → Type 0
       t = record { engine = i; chip = m }
 
       act : Act
-      act = beatOf P m (engineAt P m i) (engineAt P m i .progress)
+      act = beatOf P (m .c) (m .d) (m .memory) (engineAt P m i) (engineAt P m i .progress)
 
       flag : ℕ → ℕ → Bool
       flag j a = everEnded P j a (s .seen)

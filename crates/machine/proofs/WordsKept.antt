@@ -302,18 +302,18 @@ module _ (P : Profile) (q : EnginePlan) (image : List ℕ) (R : ℕ → Type 0) 
   no-return = rw (lt-ltb (addressOf (e .start) (e .pc)) (wordsOf P) (omega (arith, same-address, below)))
 
   -- What it fetches is the image's word.
-  pub fetched-word : (m : Chip) → ((a : ℕ) → a < wordsOf P → getD (m .memory) a 0 ≡ getD image a 0) → fetched P m (addressOf (e .start) (e .pc)) ≡ word
-  fetched-word m h = ap (fetched P m) same-address ∙ ap (decodeOf P) (h here below)
+  pub fetched-word : (m : Chip) → ((a : ℕ) → a < wordsOf P → getD (m .memory) a 0 ≡ getD image a 0) → fetched P (m .memory) (addressOf (e .start) (e .pc)) ≡ word
+  fetched-word m h = ap (fetched P (m .memory)) same-address ∙ ap (decodeOf P) (h here below)
 
   in-progress : {p : Progress} → e .progress ≡ p → Under p word
   in-progress i = subst (λ (p : Progress). Under p word) i (K .under)
 
   -- Every beat of the engine keeps the invariant.
-  pub beat-fine : (m : Chip) → ((a : ℕ) → a < wordsOf P → getD (m .memory) a 0 ≡ getD image a 0) → (p : Progress) → e .progress ≡ p → Fine (beatOf P m e p)
+  pub beat-fine : (m : Chip) → ((a : ℕ) → a < wordsOf P → getD (m .memory) a 0 ≡ getD image a 0) → (p : Progress) → e .progress ≡ p → Fine (beatOf P (m .c) (m .d) (m .memory) e p)
   unfolding beatOf
   beat-fine m h BetweenWords i =
-      subst (λ (u : Engine). Fine (starts P m u)) (sym no-return)
-      (begins-fine m (fetched P m (addressOf (e .start) (e .pc))) (sym (fetched-word m h)) (subst (SoundWord q R here) (sym (fetched-word m h)) good))
+      subst (λ (u : Engine). Fine (starts P (m .c) (m .d) (m .memory) u)) (sym no-return)
+      (begins-fine m (fetched P (m .memory) (addressOf (e .start) (e .pc))) (sym (fetched-word m h)) (subst (SoundWord q R here) (sym (fetched-word m h)) good))
   beat-fine m h (Waiting n) i = waits-fine (m .c) n (in-progress i)
   beat-fine m h (Ramping d p l n) i = ramps-fine (m .c) d p l n (in-progress i)
   beat-fine m h (Triggering w x) i = triggers-fine (m .c) w x (in-progress i)

@@ -55,7 +55,7 @@ TableSafe P p ts m =
 -- An unused engine has no range, so it never fetches.
 pub record FetchSafe (P : Profile) (q : EnginePlan) (m : Chip) (e : Engine) : Type 0 where
   pub inside : InCode q (addressOf (e .start) (e .pc))
-  pub isDefined : Defined (fetched P m (addressOf (e .start) (e .pc)))
+  pub isDefined : Defined (fetched P (m .memory) (addressOf (e .start) (e .pc)))
 
 -- One turn, after the turns ts.
 pub record TurnSafe (P : Profile) (p : Plan) (ts : List Seen) (t : Seen) : Type 0 where

@@ -2,6 +2,7 @@
 -- exceeds 95, PC becomes 0 first"; "Its turn is its acting in a beat").
 use Prim.Native.Nat.{ℕ, _+_}
 use mathlib.Core.Bool.{Bool, true, false, not, cond, _&&_, _||_}
+use mathlib.Core.List.{List}
 use lib.Dec.{ltb}
 use lib.ListN.{getD, set}
 use Rattle.word.specs.Profile.{Profile, wordsOf}
@@ -59,19 +60,19 @@ abbrev pub returned : Profile → Engine → Engine
 returned P e = cond (ltb (addressOf (e .start) (e .pc)) (wordsOf P)) e (withPc (stepAt 0) e)
 
 -- The word at an address; past the memory it is 0.
-abbrev pub fetched : Profile → Chip → ℕ → Word
-fetched P m a = decodeOf P (getD (m .memory) a 0)
+abbrev pub fetched : Profile → List ℕ → ℕ → Word
+fetched P memory a = decodeOf P (getD memory a 0)
 
--- The first beat of the word that engine e fetches.
-abbrev pub starts : Profile → Chip → Engine → Act
-starts P m e = begins P (m .c) (m .d) (m .memory) e (addressOf (e .start) (e .pc)) (fetched P m (addressOf (e .start) (e .pc)))
+-- The first beat of the word that engine e fetches, with C, D and the memory given.
+abbrev pub starts : Profile → ℕ → ℕ → List ℕ → Engine → Act
+starts P c d memory e = begins P c d memory e (addressOf (e .start) (e .pc)) (fetched P memory (addressOf (e .start) (e .pc)))
 
--- A beat of engine e, by its word in progress.
-unfoldable pub beatOf : Profile → Chip → Engine → Progress → Act
-beatOf P m e BetweenWords = starts P m (returned P e)
-beatOf P m e (Waiting n) = waits (m .c) e n
-beatOf P m e (Ramping dir p l n) = ramps (m .c) e dir p l n
-beatOf P m e (Triggering w x) = triggers (m .c) e w x
+-- A beat of engine e, by its word in progress. It sees C, D and the memory, and nothing else of the chip.
+unfoldable pub beatOf : Profile → ℕ → ℕ → List ℕ → Engine → Progress → Act
+beatOf P c d memory e BetweenWords = starts P c d memory (returned P e)
+beatOf P c d memory e (Waiting n) = waits c e n
+beatOf P c d memory e (Ramping dir p l n) = ramps c e dir p l n
+beatOf P c d memory e (Triggering w x) = triggers c e w x
 
 -- The chip after a beat of engine i.
 abbrev pub applied : Profile → ℕ → Chip → Act → Turned
@@ -92,7 +93,7 @@ applied P i m t =
 
 -- By whether the engine acts.
 abbrev pub turnIf : Profile → ℕ → Chip → Bool → Turned
-turnIf P i m true = applied P i m (beatOf P m (engineAt P m i) (engineAt P m i .progress))
+turnIf P i m true = applied P i m (beatOf P (m .c) (m .d) (m .memory) (engineAt P m i) (engineAt P m i .progress))
 turnIf P i m false = record { chip = m; send = 0; ended = false }
 
 unfoldable pub turn : Profile → ℕ → Chip → Turned

@@ -1,0 +1,6 @@
+pub mod Digits
+pub mod Engines
+pub mod Levels
+pub mod Loops
+pub mod TurnOf
+pub mod RunOf

@@ -1,0 +1,64 @@
+// Whether an engine acts.
+use crate::Core;
+use machine::Exec;
+use machine::Mode;
+use machine::Progress;
+ghost use mathlib.Core.List.{List};
+ghost use mathlib.Core.Path.{_≡_};
+ghost use Prim.Native.Nat.{ℕ};
+ghost use Rattle.machine.specs.Turn.{isRun, isHold, midWord, acts};
+ghost use Rattle.cores.specs.Core.{engineOf};
+
+fn is_run(mode: Mode) -> bool
+    ensures { λ r. ⌜ r ≡ isRun mode ⌝ }
+{
+    match mode {
+        Mode::Disabled => false,
+        Mode::Load => false,
+        Mode::Run => true,
+        Mode::Halt => false,
+    }
+}
+
+fn is_hold(exec: Exec) -> bool
+    ensures { λ r. ⌜ r ≡ isHold exec ⌝ }
+{
+    match exec {
+        Exec::Hold => true,
+        Exec::Step => false,
+        Exec::Free => false,
+        Exec::Once => false,
+    }
+}
+
+fn mid_word(progress: Progress) -> bool
+    ensures { λ r. ⌜ r ≡ midWord progress ⌝ }
+{
+    match progress {
+        Progress::BetweenWords => false,
+        Progress::Waiting { left: _ } => true,
+        Progress::Ramping {
+            dir: _,
+            part: _,
+            left: _,
+            parts: _,
+        } => true,
+        Progress::Triggering { wait: _, send: _ } => true,
+    }
+}
+
+// It acts in run mode, in the middle of a word or where it is not held.
+pub fn acts(k: Core) -> bool
+    ensures { λ r. ⌜ ((counts : List ℕ) → r ≡ acts (engineOf k counts)) ⌝ }
+{
+    let mode = k.mode;
+    let progress = k.progress;
+    let exec = k.exec;
+    if !is_run(mode) {
+        return false;
+    }
+    if mid_word(progress) {
+        return true;
+    }
+    !is_hold(exec)
+}

@@ -1,0 +1,58 @@
+// A core taken from an engine, and put together with its branch counts again.
+use crate::Core;
+use machine::Engine;
+ghost use mathlib.Core.Path.{_≡_};
+ghost use Rattle.cores.specs.Core.{engineOf};
+
+// An engine without its branch counts.
+pub fn core_of(e: Engine) -> Core
+    ensures { λ r. ⌜ engineOf r (e .loops) ≡ e ⌝ }
+{
+    let mode = e.mode;
+    let exec = e.exec;
+    let pc = e.pc;
+    let progress = e.progress;
+    let start = e.start;
+    let table = e.table;
+    Core {
+        mode,
+        exec,
+        pc,
+        a: e.a,
+        b: e.b,
+        interrupt: e.interrupt,
+        fault: e.fault,
+        pending: e.pending,
+        mask: e.mask,
+        progress,
+        start,
+        table,
+    }
+}
+
+// An engine from its core and its branch counts.
+pub fn engine_of(own: Core, counts: [u8; 96]) -> Engine
+    ensures { λ r. ⌜ r ≡ engineOf own counts ⌝ }
+{
+    let mode = own.mode;
+    let exec = own.exec;
+    let start = own.start;
+    let pc = own.pc;
+    let table = own.table;
+    let progress = own.progress;
+    Engine {
+        mode,
+        exec,
+        start,
+        pc,
+        a: own.a,
+        b: own.b,
+        mask: own.mask,
+        table,
+        pending: own.pending,
+        interrupt: own.interrupt,
+        fault: own.fault,
+        progress,
+        loops: counts,
+    }
+}

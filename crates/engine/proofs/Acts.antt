@@ -1,0 +1,9 @@
+-- What a beat gives, by the engine after it.
+use Prim.Native.Nat.{ℕ}
+use mathlib.Core.Bool.{Bool}
+use Rattle.machine.specs.declared.Engine.{Engine}
+use Rattle.machine.specs.declared.Effect.{Effect}
+use Rattle.machine.specs.declared.Act.{Act}
+
+abbrev pub act : ℕ → Effect → ℕ → Bool → Engine → Act
+act c effect send ended e = record { own = e; c = c; effect = effect; send = send; ended = ended }

@@ -1,0 +1,20 @@
+-- `engine::stops::held` meets its contract.
+use mathlib.Core.Path.{ap, _∙_}
+use borrow.Author.Needs.{needs}
+use Rattle.machine.specs.declared.Exec.the-variants.{Hold}
+use Rattle.machine.specs.Parts.{withExec}
+use Rattle.machine.specs.WordEnd.{finish}
+use Rattle.engine.proofs.stops.held.Statement.{statement}
+use Rattle.engine.proofs.stops.held.Tie as tie
+
+pub held-spec : {M : Type 1} → statement M
+held-spec =
+    tie.close
+    (tie.spec
+    (search needs)
+    (search needs)
+    (search needs)
+    (λ c counts.
+    let c2 = c .before .before in
+    c .with-state .ensures counts
+    ∙ ap (withExec Hold) (c2 .finish .ensures counts ∙ ap (finish _) (c2 .before .with-interrupt .ensures counts))))

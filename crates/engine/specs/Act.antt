@@ -1,0 +1,17 @@
+-- What a beat gives, put together from what the code computes of it. There is no rule here.
+use Prim.Native.Nat.{ℕ}
+use mathlib.Core.Bool.{false}
+use mathlib.Core.List.{List}
+use Rattle.cores.specs.Core.{engineOf}
+use Rattle.machine.specs.declared.Engine.{Engine}
+use Rattle.machine.specs.declared.Effect.the-variants.{Keep}
+use Rattle.machine.specs.declared.Act.{Act}
+use Rattle.engine.specs.declared.CoreAct.{CoreAct}
+
+-- What a beat gives, from what it gives of the core, and the branch counts after it.
+abbrev pub actOf : CoreAct → List ℕ → Act
+actOf t counts = record { own = engineOf (t .own) counts; c = t .c; effect = t .effect; send = t .send; ended = t .ended }
+
+-- What it is for an engine that doesn't act.
+abbrev pub rests : ℕ → Engine → Act
+rests c e = record { own = e; c = c; effect = Keep; send = 0; ended = false }

@@ -1,0 +1,27 @@
+// One engine's turn: what a beat of its word gives, if it acts. The rules are document 01's, section
+// "A beat"; the definitions are crate machine's. The branch counts are lent.
+mod branches;
+mod core_parts;
+mod durations;
+mod levels;
+mod memory;
+mod stops;
+mod table;
+mod triggers;
+mod turns;
+mod variables;
+mod word_end;
+mod words;
+
+use cores::Core;
+use machine::Effect;
+pub use turns::turn;
+
+// What a beat gives, but for the branch counts.
+pub struct CoreAct {
+    pub own: Core,
+    pub c: u8,
+    pub effect: Effect,
+    pub send: u16,
+    pub ended: bool,
+}

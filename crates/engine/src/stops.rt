@@ -1,0 +1,97 @@
+// rst, end and int, and words that are undefined.
+use super::core_parts::with_fault;
+use super::core_parts::with_interrupt;
+use super::core_parts::with_state;
+use super::word_end::ends;
+use super::word_end::finish;
+use super::word_end::goes_on;
+use crate::CoreAct;
+use cores::Core;
+use machine::Effect;
+use machine::Exec;
+use machine::Mode;
+use word::Step;
+ghost use mathlib.Core.Bool.{true, cond, _||_};
+ghost use mathlib.Core.List.{List};
+ghost use mathlib.Core.Path.{_≡_};
+ghost use Prim.Native.Nat.{ℕ};
+ghost use Rattle.word.specs.Profile.{LP5523};
+ghost use Rattle.word.specs.Decode.{stepAt};
+ghost use Rattle.machine.specs.declared.Exec.the-variants.{Hold};
+ghost use Rattle.machine.specs.declared.Effect.the-variants.{Keep};
+ghost use Rattle.machine.specs.Parts.{zeroCounts, withExec, withInterrupt, withLoops};
+ghost use Rattle.machine.specs.WordEnd.{finish, ends, goesOn};
+ghost use Rattle.machine.specs.Words.{stops, faults};
+ghost use Rattle.cores.specs.Core.{engineOf};
+ghost use Rattle.engine.specs.Act.{actOf};
+
+// rst
+pub(super) fn restarts(k: Core, counts: &mut [u8; 96], c: u8) -> CoreAct
+    ensures { λ r. ⌜ actOf r (now (counts .exit)) ≡ ends c (withLoops (zeroCounts LP5523) (engineOf k (now (counts .entry)))) Keep 0 (stepAt 0) ⌝ }
+{
+    *counts = [0u8; 96];
+    ends(k, c, Effect::Keep, 0, Step(0))
+}
+
+// The engine after end, with its new PC.
+fn held(k: Core, int: bool, pc: Step) -> Core
+    ensures { λ r. ⌜ ((counts : List ℕ) → engineOf r counts ≡ withExec Hold (finish pc (withInterrupt (k .interrupt || int) (engineOf k counts)))) ⌝ }
+{
+    let f = finish(with_interrupt(k, k.interrupt | int), pc);
+    let mode = f.mode;
+    let after = f.pc;
+    let progress = f.progress;
+    with_state(f, mode, Exec::Hold, after, progress)
+}
+
+// The PC that end gives; the counts become 0 if it resets.
+fn reset_pc(pc: Step, counts: &mut [u8; 96], reset: bool) -> Step
+    ensures { λ r. ⌜ (r ≡ cond reset (stepAt 0) pc) × (now (counts .exit) ≡ cond reset (zeroCounts LP5523) (now (counts .entry))) ⌝ }
+{
+    if reset {
+        *counts = [0u8; 96];
+        return Step(0);
+    }
+    pc
+}
+
+// end
+pub(super) fn stops(k: Core, counts: &mut [u8; 96], c: u8, int: bool, reset: bool) -> CoreAct
+    ensures { λ r. ⌜ actOf r (now (counts .exit)) ≡ stops LP5523 c (engineOf k (now (counts .entry))) int reset ⌝ }
+{
+    let old = k.pc;
+    let pc = reset_pc(old, counts, reset);
+    let own = held(k, int, pc);
+    CoreAct {
+        own,
+        c,
+        effect: Effect::Keep,
+        send: 0,
+        ended: true,
+    }
+}
+
+// int
+pub(super) fn interrupts(k: Core, c: u8) -> CoreAct
+    ensures { λ r. ⌜ ((counts : List ℕ) → actOf r counts ≡ goesOn c (withInterrupt true (engineOf k counts))) ⌝ }
+{
+    goes_on(with_interrupt(k, true), c)
+}
+
+// An undefined word.
+pub(super) fn faults(k: Core, c: u8) -> CoreAct
+    ensures { λ r. ⌜ ((counts : List ℕ) → actOf r counts ≡ faults c (engineOf k counts)) ⌝ }
+{
+    let f = with_fault(k, true);
+    let exec = f.exec;
+    let pc = f.pc;
+    let progress = f.progress;
+    let own = with_state(f, Mode::Halt, exec, pc, progress);
+    CoreAct {
+        own,
+        c,
+        effect: Effect::Keep,
+        send: 0,
+        ended: false,
+    }
+}

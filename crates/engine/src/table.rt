@@ -1,0 +1,164 @@
+// Words that set the mask or the pointers into the mapping table.
+use super::core_parts::with_mask;
+use super::core_parts::with_table;
+use super::word_end::goes_on;
+use crate::CoreAct;
+use cores::Core;
+use machine::Pointers;
+use word::Address;
+use word::MuxAtOp;
+use word::MuxMoveOp;
+ghost use mathlib.Core.Bool.{true, false};
+ghost use mathlib.Core.List.{List};
+ghost use mathlib.Core.Path.{_≡_};
+ghost use Prim.Native.Nat.{ℕ, _≤_};
+ghost use lib.ListN.{getD};
+ghost use Rattle.word.specs.Profile.{LP5523};
+ghost use Rattle.word.specs.Classes.{useAt, useMove, mapsAt, mapsMove};
+ghost use Rattle.word.specs.declared.TableUse.the-variants.{StartAt, EndAt, RowAt, Forward, Backward};
+ghost use Rattle.machine.specs.Parts.{withMask};
+ghost use Rattle.machine.specs.WordEnd.{goesOn};
+ghost use Rattle.machine.specs.Outputs.{maskOf, maskOfOutput};
+ghost use Rattle.machine.specs.TablePointers.{nextIndex, previousIndex, pointed, points};
+ghost use Rattle.cores.specs.Core.{engineOf};
+ghost use Rattle.engine.specs.Act.{actOf};
+
+// Words of program memory.
+const WORDS: u16 = 96;
+
+// The row bits that are outputs.
+const OUTPUT_BITS: u16 = 0x81FF;
+
+fn next_index(t: Pointers) -> Address
+    ensures { λ r. ⌜ r .0 ≡ nextIndex LP5523 t ⌝ }
+{
+    if t.index.0 == t.bottom.0 {
+        return t.top;
+    }
+    if t.index.0 >= WORDS - 1 {
+        return t.top;
+    }
+    Address(t.index.0 + 1)
+}
+
+fn previous_index(t: Pointers) -> Address
+    ensures { λ r. ⌜ r .0 ≡ previousIndex t ⌝ }
+{
+    if t.index.0 == t.top.0 {
+        return t.bottom;
+    }
+    if t.index.0 == 0 {
+        return t.bottom;
+    }
+    Address(t.index.0 - 1)
+}
+
+// The mask that the row at an address gives; past the memory there is none.
+fn mask_at(memory: &[u16], index: Address) -> u16
+    ensures { λ r. ⌜ r ≡ maskOf LP5523 (getD (now (memory .entry)) (index .0) 0) ⌝ }
+{
+    let at = index.0 as usize;
+    if at >= memory.len() {
+        return 0;
+    }
+    memory[at] & OUTPUT_BITS
+}
+
+fn loads(k: Core, c: u8, table: Pointers) -> CoreAct
+    ensures { λ r. ⌜ ((memory counts : List ℕ) → actOf r counts ≡ points LP5523 c memory (engineOf k counts) false table) ⌝ }
+{
+    goes_on(with_table(k, table), c)
+}
+
+fn maps(k: Core, c: u8, memory: &[u16; 96], table: Pointers) -> CoreAct
+    ensures { λ r. ⌜ ((counts : List ℕ) → actOf r counts ≡ points LP5523 c (now (memory .entry)) (engineOf k counts) true table) ⌝ }
+{
+    let index = table.index;
+    goes_on(with_mask(with_table(k, table), mask_at(memory, index)), c)
+}
+
+fn start_at(t: Pointers, address: Address) -> Pointers
+    ensures { λ r. ⌜ r ≡ pointed LP5523 (StartAt address) t ⌝ }
+{
+    let bottom = t.bottom;
+    Pointers {
+        top: address,
+        bottom,
+        index: address,
+    }
+}
+
+fn end_at(t: Pointers, address: Address) -> Pointers
+    ensures { λ r. ⌜ r ≡ pointed LP5523 (EndAt address) t ⌝ }
+{
+    let top = t.top;
+    let index = t.index;
+    Pointers {
+        top,
+        bottom: address,
+        index,
+    }
+}
+
+fn row_at(t: Pointers, address: Address) -> Pointers
+    ensures { λ r. ⌜ r ≡ pointed LP5523 (RowAt address) t ⌝ }
+{
+    let top = t.top;
+    let bottom = t.bottom;
+    Pointers {
+        top,
+        bottom,
+        index: address,
+    }
+}
+
+fn forward(t: Pointers) -> Pointers
+    ensures { λ r. ⌜ r ≡ pointed LP5523 Forward t ⌝ }
+{
+    row_at(t, next_index(t))
+}
+
+fn backward(t: Pointers) -> Pointers
+    ensures { λ r. ⌜ r ≡ pointed LP5523 Backward t ⌝ }
+{
+    row_at(t, previous_index(t))
+}
+
+pub(super) fn mux_at(k: Core, c: u8, memory: &[u16; 96], op: MuxAtOp, address: Address) -> CoreAct
+    ensures { λ r. ⌜ ((counts : List ℕ) → actOf r counts ≡ points LP5523 c (now (memory .entry)) (engineOf k counts) (mapsAt op) (pointed LP5523 (useAt op address) (k .table))) ⌝ }
+{
+    let t = k.table;
+    match op {
+        MuxAtOp::MuxMapStart => maps(k, c, memory, start_at(t, address)),
+        MuxAtOp::MuxLdEnd => loads(k, c, end_at(t, address)),
+        MuxAtOp::MuxLdStart => loads(k, c, start_at(t, address)),
+        MuxAtOp::MuxLdAddr => loads(k, c, row_at(t, address)),
+        MuxAtOp::MuxMapAddr => maps(k, c, memory, row_at(t, address)),
+    }
+}
+
+pub(super) fn mux_move(k: Core, c: u8, memory: &[u16; 96], op: MuxMoveOp) -> CoreAct
+    ensures { λ r. ⌜ ((counts : List ℕ) → actOf r counts ≡ points LP5523 c (now (memory .entry)) (engineOf k counts) (mapsMove op) (pointed LP5523 (useMove op) (k .table))) ⌝ }
+{
+    let t = k.table;
+    match op {
+        MuxMoveOp::MuxMapNext => maps(k, c, memory, forward(t)),
+        MuxMoveOp::MuxLdNext => loads(k, c, forward(t)),
+        MuxMoveOp::MuxMapPrev => maps(k, c, memory, backward(t)),
+        MuxMoveOp::MuxLdPrev => loads(k, c, backward(t)),
+    }
+}
+
+pub(super) fn mux_sel(k: Core, c: u8, output: u16) -> CoreAct
+    requires { ⌜ (1 ≤ output) × (output ≤ 16) ⌝ }
+    ensures { λ r. ⌜ ((counts : List ℕ) → actOf r counts ≡ goesOn c (withMask (maskOfOutput LP5523 output) (engineOf k counts))) ⌝ }
+{
+    let mask: u16 = 1 << (output - 1);
+    goes_on(with_mask(k, mask), c)
+}
+
+pub(super) fn mux_clr(k: Core, c: u8) -> CoreAct
+    ensures { λ r. ⌜ ((counts : List ℕ) → actOf r counts ≡ goesOn c (withMask 0 (engineOf k counts))) ⌝ }
+{
+    goes_on(with_mask(k, 0), c)
+}

@@ -1,0 +1,93 @@
+// An engine's turn: a beat of its word, if it acts.
+use super::core_parts::with_pc;
+use super::durations::ramps;
+use super::durations::waits;
+use super::memory::word_at;
+use super::stops::restarts;
+use super::triggers::triggers;
+use super::words::begins;
+use crate::CoreAct;
+use cores::Core;
+use cores::acts;
+use machine::Effect;
+use machine::Progress;
+use word::Step;
+ghost use mathlib.Core.Bool.{cond};
+ghost use mathlib.Core.List.{List};
+ghost use mathlib.Core.Path.{_≡_};
+ghost use Prim.Native.Nat.{ℕ};
+ghost use Rattle.word.specs.Profile.{LP5523};
+ghost use Rattle.machine.specs.Turn.{acts, addressOf, returned, starts, beatOf};
+ghost use Rattle.cores.specs.Core.{engineOf};
+ghost use Rattle.engine.specs.Act.{actOf, rests};
+
+// Words of program memory.
+const WORDS: usize = 96;
+
+fn address_of(k: Core) -> usize
+    ensures { λ r. ⌜ r ≡ addressOf (k .start) (k .pc) ⌝ }
+{
+    k.start.0 as usize + k.pc.0 as usize
+}
+
+// The first beat of the word at PC; past the memory the word is 0, which is rst.
+fn starts(k: Core, c: u8, d: u8, memory: &[u16; 96], counts: &mut [u8; 96]) -> CoreAct
+    ensures { λ r. ⌜ actOf r (now (counts .exit)) ≡ starts LP5523 c d (now (memory .entry)) (engineOf k (now (counts .entry))) ⌝ }
+{
+    let at = address_of(k);
+    let code = word_at(memory, at);
+    if at >= WORDS {
+        return restarts(k, counts, c);
+    }
+    begins(k, c, d, memory, counts, at, word::decode(code))
+}
+
+// The engine fetches its word: past the memory's last word PC becomes 0 first.
+fn fetch(k: Core, c: u8, d: u8, memory: &[u16; 96], counts: &mut [u8; 96]) -> CoreAct
+    ensures { λ r. ⌜ actOf r (now (counts .exit)) ≡ starts LP5523 c d (now (memory .entry)) (returned LP5523 (engineOf k (now (counts .entry)))) ⌝ }
+{
+    if address_of(k) >= WORDS {
+        return starts(with_pc(k, Step(0)), c, d, memory, counts);
+    }
+    starts(k, c, d, memory, counts)
+}
+
+// A beat of an engine that acts, by its word in progress.
+fn beat(k: Core, c: u8, d: u8, memory: &[u16; 96], counts: &mut [u8; 96]) -> CoreAct
+    ensures { λ r. ⌜ actOf r (now (counts .exit)) ≡ beatOf LP5523 c d (now (memory .entry)) (engineOf k (now (counts .entry))) (k .progress) ⌝ }
+{
+    let progress = k.progress;
+    match progress {
+        Progress::BetweenWords => fetch(k, c, d, memory, counts),
+        Progress::Waiting { left } => waits(k, c, left),
+        Progress::Ramping {
+            dir,
+            part,
+            left,
+            parts,
+        } => ramps(k, c, dir, part, left, parts),
+        Progress::Triggering { wait, send } => triggers(k, c, wait, send),
+    }
+}
+
+fn rests(k: Core, c: u8) -> CoreAct
+    ensures { λ r. ⌜ ((counts : List ℕ) → actOf r counts ≡ rests c (engineOf k counts)) ⌝ }
+{
+    CoreAct {
+        own: k,
+        c,
+        effect: Effect::Keep,
+        send: 0,
+        ended: false,
+    }
+}
+
+// An engine's turn, with the branch counts, which it may change.
+pub fn turn(k: Core, c: u8, d: u8, memory: &[u16; 96], counts: &mut [u8; 96]) -> CoreAct
+    ensures { λ r. ⌜ actOf r (now (counts .exit)) ≡ cond (acts (engineOf k (now (counts .entry)))) (beatOf LP5523 c d (now (memory .entry)) (engineOf k (now (counts .entry))) (k .progress)) (rests c (engineOf k (now (counts .entry)))) ⌝ }
+{
+    if !acts(k) {
+        return rests(k, c);
+    }
+    beat(k, c, d, memory, counts)
+}

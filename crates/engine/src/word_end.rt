@@ -1,0 +1,91 @@
+// How a word goes on to its next beat, or ends.
+use super::core_parts::with_progress;
+use super::core_parts::with_state;
+use crate::CoreAct;
+use cores::Core;
+use machine::Effect;
+use machine::Exec;
+use machine::Progress;
+use word::Step;
+ghost use mathlib.Core.List.{List};
+ghost use mathlib.Core.Path.{_≡_};
+ghost use Prim.Native.Nat.{ℕ};
+ghost use Rattle.machine.specs.WordEnd.{advance, pcAfter, execAfter, finish, ends, goesOn, lasts};
+ghost use Rattle.cores.specs.Core.{engineOf};
+ghost use Rattle.engine.specs.Act.{actOf};
+
+pub(super) fn advance(pc: Step, n: u16) -> Step
+    ensures { λ r. ⌜ r ≡ advance pc n ⌝ }
+{
+    Step(std::num::wrapping_add_u16(pc.0, n))
+}
+
+fn pc_after(exec: Exec, old: Step, new: Step) -> Step
+    ensures { λ r. ⌜ r ≡ pcAfter exec old new ⌝ }
+{
+    match exec {
+        Exec::Hold => new,
+        Exec::Step => new,
+        Exec::Free => new,
+        Exec::Once => old,
+    }
+}
+
+fn exec_after(exec: Exec) -> Exec
+    ensures { λ r. ⌜ r ≡ execAfter exec ⌝ }
+{
+    match exec {
+        Exec::Hold => Exec::Hold,
+        Exec::Step => Exec::Hold,
+        Exec::Free => Exec::Free,
+        Exec::Once => Exec::Hold,
+    }
+}
+
+pub(super) fn finish(k: Core, pc: Step) -> Core
+    ensures { λ r. ⌜ ((counts : List ℕ) → engineOf r counts ≡ finish pc (engineOf k counts)) ⌝ }
+{
+    let mode = k.mode;
+    let exec = k.exec;
+    let old = k.pc;
+    with_state(
+        k,
+        mode,
+        exec_after(exec),
+        pc_after(exec, old, pc),
+        Progress::BetweenWords,
+    )
+}
+
+pub(super) fn ends(k: Core, c: u8, effect: Effect, send: u16, pc: Step) -> CoreAct
+    ensures { λ r. ⌜ ((counts : List ℕ) → actOf r counts ≡ ends c (engineOf k counts) effect send pc) ⌝ }
+{
+    let own = finish(k, pc);
+    CoreAct {
+        own,
+        c,
+        effect,
+        send,
+        ended: true,
+    }
+}
+
+pub(super) fn goes_on(k: Core, c: u8) -> CoreAct
+    ensures { λ r. ⌜ ((counts : List ℕ) → actOf r counts ≡ goesOn c (engineOf k counts)) ⌝ }
+{
+    let pc = k.pc;
+    ends(k, c, Effect::Keep, 0, advance(pc, 1))
+}
+
+pub(super) fn lasts(k: Core, c: u8, effect: Effect, progress: Progress) -> CoreAct
+    ensures { λ r. ⌜ ((counts : List ℕ) → actOf r counts ≡ lasts c (engineOf k counts) effect progress) ⌝ }
+{
+    let own = with_progress(k, progress);
+    CoreAct {
+        own,
+        c,
+        effect,
+        send: 0,
+        ended: false,
+    }
+}
