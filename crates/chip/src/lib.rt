@@ -1,7 +1,10 @@
-// The chip: a beat and a run. The rules are document 01's, section "A beat"; each function is proved
-// equal to its definition in crate machine. A beat works on the chip's parts: the engines without
-// their branch counts go by value, the counts and the levels are lent.
+// The chip's five calls: a new chip, a beat, a run, a burst, an interrupt read. The rules are document
+// 01's; each call is proved equal to its definition in crate machine, for every chip value and every
+// input.
 mod beats;
+mod bursts;
+mod interrupts;
+mod new;
 mod outputs;
 mod parts;
 mod pending;
@@ -10,7 +13,10 @@ mod stops;
 mod ticks;
 mod turns;
 
+pub use bursts::burst;
 use cores::Core;
+pub use interrupts::read_interrupts;
+pub use new::new_chip;
 pub use runs::run;
 pub use ticks::tick;
 

@@ -1,0 +1,13 @@
+-- `registers::judge::judge_output` meets its contract.
+use borrow.Author.Needs.{needs}
+use Rattle.registers.proofs.Holders.{held-by-none}
+use Rattle.registers.proofs.judge.judge_output.Statement.{statement}
+use Rattle.registers.proofs.judge.judge_output.Tie as tie
+
+pub judge-output-spec : {M : Type 1} → statement M
+judge-output-spec =
+    tie.close
+    (tie.spec
+    (search needs)
+    (λ c. rw (held-by-none _ _ (c .before .before .pre), ← c .before .is-held .ensures, c .if1 .taken))
+    (λ c. rw (held-by-none _ _ (c .before .before .pre), ← c .before .is-held .ensures, c .if1 .left)))

@@ -1,0 +1,11 @@
+-- `registers::judge::judge_page` meets its contract.
+use borrow.Author.Tests.{le-leb, lt-leb}
+use Rattle.registers.proofs.judge.judge_page.Statement.{statement}
+use Rattle.registers.proofs.judge.judge_page.Tie as tie
+
+pub judge-page-spec : {M : Type 1} → statement M
+judge-page-spec =
+    tie.close
+    (tie.spec
+    (λ c. rw (le-leb 6 _ (c .if1 .taken)))
+    (λ c. rw (lt-leb 6 _ (c .if1 .left))))

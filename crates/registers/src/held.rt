@@ -1,0 +1,30 @@
+// Whether an engine holds an output.
+use machine::Engine;
+ghost use mathlib.Core.Path.{_≡_};
+ghost use Prim.Native.Nat.{_<_};
+ghost use Rattle.machine.specs.Parts.{bit};
+ghost use Rattle.machine.specs.Tick.{some};
+
+fn has_bit(mask: u16, k: u16) -> bool
+    requires { ⌜ k < 9 ⌝ }
+    ensures { λ r. ⌜ r ≡ bit mask k ⌝ }
+{
+    (mask >> k) % 2 == 1
+}
+
+// Of D1 to D9: an output's row bit is its place.
+pub(super) fn is_held(engines: [Engine; 3], k: u16) -> bool
+    requires { ⌜ k < 9 ⌝ }
+    ensures { λ r. ⌜ r ≡ some (λ e. bit (e .mask) k) engines ⌝ }
+{
+    let one = engines[0];
+    if has_bit(one.mask, k) {
+        return true;
+    }
+    let two = engines[1];
+    if has_bit(two.mask, k) {
+        return true;
+    }
+    let three = engines[2];
+    has_bit(three.mask, k)
+}
