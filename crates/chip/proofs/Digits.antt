@@ -1,7 +1,7 @@
 -- The bits of a mask without those of another.
 use Prim.Native.Nat.{ℕ, zero, suc, _<_, _/_, _%_, _^_}
 use mathlib.Core.Bool.{not, _&&_}
-use mathlib.Core.Path.{_≡_, refl, sym, _∙_, ap, ap₂}
+use mathlib.Core.Path.{_≡_, refl, _∙_, ap}
 use native.Mathlib.Omega.{arith}
 use lib.Bits.{bitAnd, bitXor, and-shr, xor-shr, and-mod, xor-mod}
 use lib.Dec.{eqb}

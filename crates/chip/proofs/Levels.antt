@@ -1,17 +1,14 @@
 -- The outputs after a beat, by their levels.
-use Prim.Native.Nat.{ℕ, suc, _+_, _<_}
+use Prim.Native.Nat.{ℕ, suc, _+_}
 use mathlib.Core.Bool.{Bool, true, false, cond}
 use mathlib.Core.List.{List, [], _∷_, map}
-use mathlib.Core.Path.{_≡_, refl, sym, _∙_, ap, ap₂}
-use native.Mathlib.Omega.{arith}
+use mathlib.Core.Path.{_≡_, refl, ap₂}
 use lib.Dec.{eqb}
-use lib.ListN.{length}
 use Rattle.word.specs.Profile.{LP5523}
-use Rattle.word.specs.declared.Direction.{Direction}
 use Rattle.machine.specs.declared.Engine.{Engine}
 use Rattle.machine.specs.declared.Output.{Output}
 use Rattle.machine.specs.declared.Effect.{Effect}
-use Rattle.machine.specs.declared.Effect.the-variants.{Keep, Put, Move}
+use Rattle.machine.specs.declared.Effect.the-variants.{Keep}
 use Rattle.machine.specs.Parts.{bit, each}
 use Rattle.machine.specs.Outputs.{rowBit, holder, outputAfter, affected}
 use Rattle.chip.specs.Parts.{outputOf, levelAfter, levelsAfter}

@@ -3,7 +3,7 @@ use Prim.Native.Nat.{ℕ, zero, suc, _+_}
 use mathlib.Core.List.{List, [], _∷_, map}
 use mathlib.Core.Path.{_≡_, refl, sym, _∙_, ap, ap₂}
 use native.Mathlib.Omega.{arith}
-use lib.ListN.{length, getD, set, length-map}
+use lib.ListN.{length, getD, set}
 use Rattle.machine.specs.Parts.{each}
 
 abbrev pub each-to : {A : Type 0} → (ℕ → A → A) → ℕ → ℕ → List A → List A
@@ -46,7 +46,3 @@ pub filled : {A B : Type 0} (g : A → B) (d : A) (n k : ℕ) (xs : List A) (ys 
 filled g d n k xs ys zs h e l l′ =
     every-place (λ j y. g (getD xs j d)) n k ys zs h e l
     ∙ from-place g d xs xs ys 0 (λ j. let z : 0 + j ≡ j = omega arith in rw z) (l ∙ sym l′)
-
--- the length of an array of structs, for `search`: it is known of the list of their values
-pub unmapped : (A B : Type 0) (f : A → B) (xs : List A) (n : ℕ) → length (map f xs) ≡ n → length xs ≡ n
-unmapped A B f xs n h = sym (length-map xs f) ∙ h

@@ -1,12 +1,10 @@
 -- Beats and runs, from what the code computes of them.
-use Prim.Native.Nat.{ℕ, zero, suc, _+_, _≤_, _<_}
+use Prim.Native.Nat.{ℕ, _+_, _≤_, _<_}
 use mathlib.Core.Bool.{Bool, true, false, cond}
 use mathlib.Core.List.{List, [], _∷_}
 use mathlib.Core.Path.{_≡_, refl, sym, _∙_, ap, ap₂, subst}
 use native.Mathlib.Omega.{arith}
-use lib.ListN.{length, getD}
 use Rattle.word.specs.Profile.{LP5523}
-use Rattle.machine.specs.declared.Engine.{Engine}
 use Rattle.machine.specs.declared.Chip.{Chip}
 use Rattle.machine.specs.declared.Ticked.{Ticked}
 use Rattle.machine.specs.declared.Ran.{Ran}
@@ -19,12 +17,6 @@ use Rattle.machine.proofs.Run.{Running, running-from, running-on}
 use Rattle.chip.specs.declared.Cores.{Cores}
 use Rattle.chip.specs.declared.CoresTicked.{CoresTicked}
 use Rattle.chip.specs.Parts.{Fixed, Lent, lent, fixedOf, lentOf, chipOf, tickedOf, ranOf}
-
--- an element that is there is the same, whatever is taken for those that are not
-pub there : {A : Type 0} (xs : List A) (i : ℕ) (d e : A) → i < length xs → getD xs i d ≡ getD xs i e
-there [] i d e h = absurd (omega arith)
-there (x ∷ xs) zero d e h = refl
-there (x ∷ xs) (suc i) d e h = there xs i d e (omega arith)
 
 -- a beat of a chip that is not stopped
 pub tick-goes : (pulse : Bool) (m : Chip) → stopped m ≡ false → tick LP5523 pulse m ≡ turns LP5523 3 0 (withPulse pulse m)

@@ -2,7 +2,6 @@
 // 01's; each call is proved equal to its definition in crate machine, for every chip value and every
 // input.
 mod beats;
-mod bursts;
 mod interrupts;
 mod new;
 mod outputs;
@@ -13,10 +12,10 @@ mod stops;
 mod ticks;
 mod turns;
 
-pub use bursts::burst;
 use cores::Core;
 pub use interrupts::read_interrupts;
 pub use new::new_chip;
+pub use registers::burst;
 pub use runs::run;
 pub use ticks::tick;
 

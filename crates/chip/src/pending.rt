@@ -4,7 +4,7 @@ use cores::Core;
 ghost use mathlib.Core.Bool.{cond};
 ghost use mathlib.Core.List.{List};
 ghost use mathlib.Core.Path.{_≡_};
-ghost use Prim.Native.Nat.{ℕ, _^_, _<_};
+ghost use Prim.Native.Nat.{ℕ, _^_};
 ghost use lib.Bits.{bitOr};
 ghost use Rattle.machine.specs.Parts.{each, withPending, withEngines};
 ghost use Rattle.machine.specs.Triggers.{receives, toPin};

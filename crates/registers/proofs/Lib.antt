@@ -1,5 +1,5 @@
+pub mod Bytes
 pub mod Addresses
-pub mod Arms
 pub mod Three
 pub mod Holders
 pub mod Single

@@ -1,6 +1,6 @@
-// Host registers: which address is listed, and what a byte written to one answers and changes. The
-// rules are document 01's, section "Host registers" and its numbers 2 to 7; the definitions are crate
-// machine's.
+// Host registers: a burst of bytes, what each answers and changes. The rules are document 01's, section
+// "Host registers" and its numbers 1 to 7; the definitions are crate machine's.
+mod bursts;
 mod engines;
 mod fields;
 mod held;
@@ -11,6 +11,4 @@ mod outcome;
 mod states;
 mod store;
 
-pub use listed::is_listed;
-pub use one_byte::write;
-pub use outcome::is_success;
+pub use bursts::burst;

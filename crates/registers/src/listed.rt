@@ -22,7 +22,7 @@ pub(super) fn register_at(address: u16) -> Register
 }
 
 // Whether an address is that of a register.
-pub fn is_listed(address: u16) -> bool
+pub(super) fn is_listed(address: u16) -> bool
     ensures { λ r. ⌜ r ≡ not (isUnlisted (registerAt LP5523 address)) ⌝ }
 {
     let register = register_at(address);

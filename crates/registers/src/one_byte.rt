@@ -12,7 +12,7 @@ ghost use Rattle.word.specs.Profile.{LP5523};
 ghost use Rattle.machine.specs.Burst.{bytesWritten};
 
 // Refused, the chip is as it was.
-pub fn write(chip: Chip, address: u16, byte: u8) -> Written
+pub(super) fn write(chip: Chip, address: u16, byte: u8) -> Written
     ensures { λ r. ⌜ r ≡ bytesWritten LP5523 (record { address = address; byte = byte } ∷ []) chip ⌝ }
 {
     let register = register_at(address);

@@ -3,7 +3,7 @@ use machine::Outcome;
 ghost use mathlib.Core.Path.{_≡_};
 ghost use Rattle.machine.specs.Burst.{succeeds};
 
-pub fn is_success(outcome: Outcome) -> bool
+pub(super) fn is_success(outcome: Outcome) -> bool
     ensures { λ r. ⌜ r ≡ succeeds outcome ⌝ }
 {
     if let Outcome::Success = outcome {

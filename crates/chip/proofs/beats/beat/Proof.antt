@@ -3,8 +3,7 @@ use mathlib.Core.Bool.{Bool}
 use mathlib.Core.List.{[], _∷_}
 use mathlib.Core.Path.{_∙_, ap}
 use borrow.Author.Needs.{needs}
-use Rattle.machine.specs.declared.Ticked.{Ticked}
-use Rattle.chip.specs.Parts.{lent, chipOf, turnedOf, tickedOf}
+use Rattle.chip.specs.Parts.{lent, chipOf, turnedOf}
 use Rattle.chip.proofs.TurnOf.{three-turns}
 use Rattle.chip.proofs.beats.beat.Statement.{statement}
 use Rattle.chip.proofs.beats.beat.Tie as tie

@@ -3,7 +3,7 @@ use mathlib.Core.Path.{_≡_, refl}
 use borrow.Author.Needs.{needs}
 use lib.ListN.{length}
 use Rattle.chip.proofs.Engines.{whole}
-use Rattle.chip.proofs.Loops.{unmapped}
+use Rattle.registers.proofs.Three.{unmapped}
 use Rattle.chip.proofs.parts.cores_of.Statement.{statement}
 use Rattle.chip.proofs.parts.cores_of.Tie as tie
 

@@ -5,7 +5,8 @@ use native.Mathlib.Omega.{arith}
 use borrow.Author.Needs.{needs}
 use lib.ListN.{getD, length}
 use Rattle.chip.specs.Parts.{levelOf, outputOf}
-use Rattle.chip.proofs.Loops.{each-to, one-place-more, filled, unmapped}
+use Rattle.chip.proofs.Loops.{each-to, one-place-more, filled}
+use Rattle.registers.proofs.Three.{unmapped}
 use Rattle.chip.proofs.parts.levels_of.Statement.{statement}
 use Rattle.chip.proofs.parts.levels_of.Tie as tie
 

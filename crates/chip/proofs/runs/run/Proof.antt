@@ -7,7 +7,7 @@ use borrow.Author.Needs.{needs}
 use Rattle.word.specs.Profile.{LP5523}
 use Rattle.machine.proofs.Run.{Running, running-quiet, running-done}
 use Rattle.machine.proofs.Theorems.{refused-run}
-use Rattle.chip.specs.Parts.{fixedOf, lent, lentOf, ranOf}
+use Rattle.chip.specs.Parts.{fixedOf, lent, ranOf}
 use Rattle.chip.proofs.RunOf.{lent-of, run-from, run-on, at-most}
 use Rattle.chip.proofs.runs.run.Statement.{statement}
 use Rattle.chip.proofs.runs.run.Tie as tie

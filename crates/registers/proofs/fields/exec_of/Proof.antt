@@ -3,7 +3,7 @@ use mathlib.Core.Path.{refl, sym, _∙_}
 use borrow.Author.Needs.{needs}
 use borrow.Author.Tests.{ne-eqb}
 use Rattle.machine.specs.Registers.{execOf}
-use Rattle.registers.proofs.Arms.{via}
+use Rattle.plan.proofs.Laws.{via}
 use Rattle.registers.proofs.fields.exec_of.Statement.{statement}
 use Rattle.registers.proofs.fields.exec_of.Tie as tie
 

@@ -4,7 +4,7 @@ use borrow.Author.Needs.{needs}
 use Rattle.word.specs.Profile.{LP5523}
 use Rattle.machine.specs.Judged.{judged}
 use Rattle.registers.specs.Places.{Exists}
-use Rattle.registers.proofs.Arms.{via}
+use Rattle.plan.proofs.Laws.{via}
 use Rattle.registers.proofs.judge.judge.Statement.{statement}
 use Rattle.registers.proofs.judge.judge.Tie as tie
 

@@ -1,4 +1,5 @@
 -- `registers::judge::judge_page` meets its contract.
+use native.Mathlib.Omega.{arith}
 use borrow.Author.Tests.{le-leb, lt-leb}
 use Rattle.registers.proofs.judge.judge_page.Statement.{statement}
 use Rattle.registers.proofs.judge.judge_page.Tie as tie
@@ -7,5 +8,5 @@ pub judge-page-spec : {M : Type 1} → statement M
 judge-page-spec =
     tie.close
     (tie.spec
-    (λ c. rw (le-leb 6 _ (c .if1 .taken)))
-    (λ c. rw (lt-leb 6 _ (c .if1 .left))))
+    (λ c. rw (le-leb 6 (c .before .args .byte) (omega arith)))
+    (λ c. rw (lt-leb 6 (c .before .args .byte) (omega arith))))

@@ -10,7 +10,7 @@ use Rattle.machine.proofs.Outcome.{the-type}
 use Rattle.machine.specs.declared.Outcome.{Outcome}
 use Rattle.machine.specs.declared.Outcome.the-variants.{Success, EmptyBurst, UnlistedAddress, OutsideRegister, LoadRefused, StartInUse, MemoryInUse, OutputHeld, TooManyBeats}
 use Rattle.machine.specs.Burst.{succeeds}
-use Rattle.registers.proofs.Arms.{via}
+use Rattle.plan.proofs.Laws.{via}
 use Rattle.registers.proofs.outcome.is_success.Statement.{statement}
 use Rattle.registers.proofs.outcome.is_success.Tie as tie
 

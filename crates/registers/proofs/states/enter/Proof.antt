@@ -5,7 +5,7 @@ use Rattle.word.specs.Profile.{LP5523}
 use Rattle.machine.specs.declared.Mode.the-variants.{Load}
 use Rattle.machine.specs.Parts.{withMode}
 use Rattle.machine.specs.Stored.{enters}
-use Rattle.registers.proofs.Arms.{via}
+use Rattle.plan.proofs.Laws.{via}
 use Rattle.registers.proofs.states.enter.Statement.{statement}
 use Rattle.registers.proofs.states.enter.Tie as tie
 

@@ -3,7 +3,7 @@ use mathlib.Core.Path.{refl}
 use borrow.Author.Needs.{needs}
 use Rattle.word.specs.Profile.{LP5523}
 use Rattle.machine.specs.Stored.{prepared}
-use Rattle.registers.proofs.Arms.{via}
+use Rattle.plan.proofs.Laws.{via}
 use Rattle.registers.proofs.states.prepare.Statement.{statement}
 use Rattle.registers.proofs.states.prepare.Tie as tie
 

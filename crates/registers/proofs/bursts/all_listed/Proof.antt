@@ -1,4 +1,4 @@
--- `chip::bursts::all_listed` meets its contract: the loop's invariant is that what holds of all holds of the bytes that are left.
+-- `registers::bursts::all_listed` meets its contract: the loop's invariant is that what holds of all holds of the bytes that are left.
 use Prim.Native.Nat.{_-_}
 use mathlib.Core.Bool.{not}
 use mathlib.Core.Path.{_≡_, refl, sym, ap, _∙_}
@@ -7,10 +7,10 @@ use lib.ListN.{length, drop}
 use borrow.Author.Tests.{not-true, not-false}
 use Rattle.word.specs.Profile.{LP5523}
 use Rattle.machine.specs.Burst.{visited, someUnlisted}
 use Rattle.registers.proofs.Addresses.{listed-low}
-use Rattle.chip.proofs.Bytes.{unlisted-at, listed-at, listed-end}
-use Rattle.chip.proofs.bursts.all_listed.Statement.{statement}
-use Rattle.chip.proofs.bursts.all_listed.Tie as tie
+use Rattle.registers.proofs.Bytes.{unlisted-at, listed-at, listed-end}
+use Rattle.registers.proofs.bursts.all_listed.Statement.{statement}
+use Rattle.registers.proofs.bursts.all_listed.Tie as tie
 
 abbrev Inv-loop : tie.InvT-loop
 Inv-loop first bytes address₀ i₀ address i = someUnlisted LP5523 (visited first bytes) ≡ someUnlisted LP5523 (visited address (drop i bytes))

@@ -1,11 +1,11 @@
--- `chip::bursts::burst` meets its contract.
+-- `registers::bursts::burst` meets its contract.
 use mathlib.Core.Path.{sym, _∙_}
 use borrow.Author.Needs.{needs}
 use borrow.Author.Tests.{not-true, not-false}
 use Rattle.word.specs.Profile.{LP5523}
-use Rattle.chip.proofs.Bytes.{burst-empty, burst-unlisted, burst-refused, burst-stored}
-use Rattle.chip.proofs.bursts.burst.Statement.{statement}
-use Rattle.chip.proofs.bursts.burst.Tie as tie
+use Rattle.registers.proofs.Bytes.{burst-empty, burst-unlisted, burst-refused, burst-stored}
+use Rattle.registers.proofs.bursts.burst.Statement.{statement}
+use Rattle.registers.proofs.bursts.burst.Tie as tie
 
 pub burst-spec : {M : Type 1} → statement M
 burst-spec =

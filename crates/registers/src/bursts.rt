@@ -1,4 +1,7 @@
 // A burst: 1, 2, then the bytes in order, each judged after those before it; one refusal undoes all.
+use super::listed::is_listed;
+use super::one_byte::write;
+use super::outcome::is_success;
 use machine::Chip;
 use machine::Outcome;
 use machine::Written;
@@ -14,7 +17,7 @@ fn all_listed(first: u16, bytes: &[u8]) -> bool
     let mut address = first;
     let mut i = 0;
     while i < bytes.len() {
-        if !registers::is_listed(address) {
+        if !is_listed(address) {
             return false;
         }
         address += 1;
@@ -31,9 +34,9 @@ fn write_bytes(chip: Chip, first: u16, bytes: &[u8]) -> Written
     let mut address = first;
     let mut i = 0;
     while i < bytes.len() {
-        let written = registers::write(changed, address, bytes[i]);
+        let written = write(changed, address, bytes[i]);
         let outcome = written.outcome;
-        if !registers::is_success(outcome) {
+        if !is_success(outcome) {
             return written;
         }
         let after = written.chip;
@@ -64,7 +67,7 @@ pub fn burst(chip: Chip, first: u16, bytes: &[u8]) -> Written
     }
     let written = write_bytes(chip, first, bytes);
     let outcome = written.outcome;
-    if !registers::is_success(outcome) {
+    if !is_success(outcome) {
         return Written { outcome, chip };
     }
     written

@@ -1,4 +1,4 @@
--- `chip::bursts::write_bytes` meets its contract: the loop's invariant is that what all the bytes give is what those left give.
+-- `registers::bursts::write_bytes` meets its contract: the loop's invariant is that what all the bytes give is what those left give.
 use Prim.Native.Nat.{_-_}
 use mathlib.Core.Path.{_≡_, refl, sym, _∙_}
 use native.Mathlib.Omega.{arith}
@@ -6,9 +6,9 @@ use lib.ListN.{length, drop}
 use borrow.Author.Tests.{not-true, not-false}
 use Rattle.word.specs.Profile.{LP5523}
 use Rattle.machine.specs.Burst.{visited, bytesWritten}
-use Rattle.chip.proofs.Bytes.{refused-at, stored-at, stored-end, stored-low}
-use Rattle.chip.proofs.bursts.write_bytes.Statement.{statement}
-use Rattle.chip.proofs.bursts.write_bytes.Tie as tie
+use Rattle.registers.proofs.Bytes.{refused-at, stored-at, stored-end, stored-low}
+use Rattle.registers.proofs.bursts.write_bytes.Statement.{statement}
+use Rattle.registers.proofs.bursts.write_bytes.Tie as tie
 
 abbrev Inv-loop : tie.InvT-loop
 Inv-loop first bytes changed₀ address₀ i₀ changed address i = bytesWritten LP5523 (visited first bytes) changed₀ ≡ bytesWritten LP5523 (visited address (drop i bytes)) changed
