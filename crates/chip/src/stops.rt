@@ -3,7 +3,7 @@ use super::beats::any;
 use crate::Cores;
 use cores::Core;
 use cores::acts;
-use machine::Mode;
+use cores::is_load;
 ghost use mathlib.Core.List.{List};
 ghost use mathlib.Core.Path.{_≡_};
 ghost use Prim.Native.Nat.{ℕ};
@@ -16,12 +16,7 @@ fn loads(k: Core) -> bool
     ensures { λ r. ⌜ ((counts : List ℕ) → r ≡ loads (engineOf k counts)) ⌝ }
 {
     let mode = k.mode;
-    match mode {
-        Mode::Disabled => false,
-        Mode::Load => true,
-        Mode::Run => false,
-        Mode::Halt => false,
-    }
+    is_load(mode)
 }
 
 pub(super) fn stopped(enabled: bool, k: Cores) -> bool

@@ -1,12 +1,12 @@
 // Whether an engine acts.
+use super::state::mid_word;
 use crate::Core;
 use machine::Exec;
 use machine::Mode;
-use machine::Progress;
 ghost use mathlib.Core.List.{List};
 ghost use mathlib.Core.Path.{_≡_};
 ghost use Prim.Native.Nat.{ℕ};
-ghost use Rattle.machine.specs.Turn.{isRun, isHold, midWord, acts};
+ghost use Rattle.machine.specs.Turn.{isRun, isHold, acts};
 ghost use Rattle.cores.specs.Core.{engineOf};
 
 fn is_run(mode: Mode) -> bool
@@ -28,22 +28,6 @@ fn is_hold(exec: Exec) -> bool
         Exec::Step => false,
         Exec::Free => false,
         Exec::Once => false,
-    }
-}
-
-fn mid_word(progress: Progress) -> bool
-    ensures { λ r. ⌜ r ≡ midWord progress ⌝ }
-{
-    match progress {
-        Progress::BetweenWords => false,
-        Progress::Waiting { left: _ } => true,
-        Progress::Ramping {
-            dir: _,
-            part: _,
-            left: _,
-            parts: _,
-        } => true,
-        Progress::Triggering { wait: _, send: _ } => true,
     }
 }
 

@@ -2,6 +2,7 @@
 // little is copied. It is taken from an engine, put together again, and tells whether it acts.
 mod acting;
 mod parts;
+mod state;
 
 pub use acting::acts;
 use machine::Exec;
@@ -10,6 +11,8 @@ use machine::Pointers;
 use machine::Progress;
 pub use parts::core_of;
 pub use parts::engine_of;
+pub use state::is_load;
+pub use state::mid_word;
 use word::Address;
 use word::Step;
 

@@ -1,6 +1,7 @@
 // Words that set the mask or the pointers into the mapping table.
 use super::core_parts::with_mask;
 use super::core_parts::with_table;
+use super::memory::word_at;
 use super::word_end::goes_on;
 use crate::CoreAct;
 use cores::Core;
@@ -54,14 +55,10 @@ fn previous_index(t: Pointers) -> Address
 }
 
 // The mask that the row at an address gives; past the memory there is none.
-fn mask_at(memory: &[u16], index: Address) -> u16
+fn mask_at(memory: &[u16; 96], index: Address) -> u16
     ensures { λ r. ⌜ r ≡ maskOf LP5523 (getD (now (memory .entry)) (index .0) 0) ⌝ }
 {
-    let at = index.0 as usize;
-    if at >= memory.len() {
-        return 0;
-    }
-    memory[at] & OUTPUT_BITS
+    word_at(memory, index.0 as usize) & OUTPUT_BITS
 }
 
 fn loads(k: Core, c: u8, table: Pointers) -> CoreAct

@@ -1,8 +1,9 @@
 // What the numbers 4 to 7 ask of the engines.
 use super::fields::mode_of;
+use cores::is_load;
+use cores::mid_word;
 use machine::Engine;
 use machine::Mode;
-use machine::Progress;
 ghost use mathlib.Core.Bool.{_&&_};
 ghost use mathlib.Core.Path.{_≡_};
 ghost use Prim.Native.Nat.{_<_};
@@ -10,17 +11,6 @@ ghost use Rattle.machine.specs.Turn.{midWord};
 ghost use Rattle.machine.specs.Tick.{some, isLoad, loads};
 ghost use Rattle.machine.specs.Registers.{pairOf, modeOf};
 ghost use Rattle.machine.specs.Judged.{inUse, loadRefused, memoryInUse};
-
-fn is_load(mode: Mode) -> bool
-    ensures { λ r. ⌜ r ≡ isLoad mode ⌝ }
-{
-    match mode {
-        Mode::Disabled => false,
-        Mode::Load => true,
-        Mode::Run => false,
-        Mode::Halt => false,
-    }
-}
 
 // In run or halt.
 pub(super) fn in_use(mode: Mode) -> bool
@@ -31,22 +21,6 @@ pub(super) fn in_use(mode: Mode) -> bool
         Mode::Load => false,
         Mode::Run => true,
         Mode::Halt => true,
-    }
-}
-
-fn mid_word(progress: Progress) -> bool
-    ensures { λ r. ⌜ r ≡ midWord progress ⌝ }
-{
-    match progress {
-        Progress::BetweenWords => false,
-        Progress::Waiting { left: _ } => true,
-        Progress::Ramping {
-            dir: _,
-            part: _,
-            left: _,
-            parts: _,
-        } => true,
-        Progress::Triggering { wait: _, send: _ } => true,
     }
 }
 

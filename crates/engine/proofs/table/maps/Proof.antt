@@ -19,4 +19,4 @@ maps-spec =
     (λ c counts.
     let c2 = c .before in let c3 = c2 .before in
     rw (← c3 .mask-at .ensures)
-    (c .goes-on .ensures counts ∙ ap (goesOn _) (c2 .with-mask .ensures counts ∙ ap (withMask _) (c3 .before .before .with-table .ensures counts)))))
+    (c .goes-on .ensures counts ∙ ap (goesOn _) (c2 .with-mask .ensures counts ∙ ap (withMask _) (c3 .before .with-table .ensures counts)))))
