@@ -126,6 +126,7 @@ impl Coverage {
                 let raised = chip.read_interrupts().contains(&true);
                 self.add("call", if raised { "interrupt-read-raised" } else { "interrupt-read" });
             }
+            Call::Nothing => self.add("call", "nothing"),
         }
     }
 

@@ -1,6 +1,6 @@
-//! Compares the proved chip with a plain one: answers and final states on random scripts, then the
-//! beats per second of both on the same scripts, in one run. The first argument is the number of
-//! random scripts.
+//! Compares the proved chip with a plain one: answers and final states on random scripts, folded into
+//! one number, then the beats per second of both on the same scripts, in one run. The first argument
+//! is the number of random scripts.
 mod coverage;
 mod generate;
 mod plain;
@@ -10,36 +10,26 @@ mod words;
 
 use coverage::Coverage;
 use generate::Random;
-use script::STATE;
 use std::hint::black_box;
 use std::time::Instant;
 
-type Played = (u64, [u8; STATE]);
-
 extern "C" {
-    fn chip_play(script: *const u8, script_len: usize, state: *mut u8, state_len: usize) -> u64;
+    fn chip_play(script: *const u8, script_len: usize) -> u64;
 }
 
-fn proved(script: &[u8]) -> Played {
-    let mut state = [0; STATE];
-    // reads the script's bytes and writes the state's, no others
-    let digest = unsafe { chip_play(script.as_ptr(), script.len(), state.as_mut_ptr(), STATE) };
-    (digest, state)
+fn proved(script: &[u8]) -> u64 {
+    // reads the script's bytes, no others
+    unsafe { chip_play(script.as_ptr(), script.len()) }
 }
 
 #[inline(never)]
-fn plain(script: &[u8]) -> Played {
+fn plain(script: &[u8]) -> u64 {
     script::play(script)
 }
 
-/// Says where the two sides differ on a script.
-fn report(script: &[u8], proved: &Played, plain: &Played) {
-    println!("digests: proved={:016x} plain={:016x}", proved.0, plain.0);
-    for (at, (ours, theirs)) in proved.1.iter().zip(&plain.1).enumerate() {
-        if ours != theirs {
-            println!("state byte {at}: proved={ours} plain={theirs}");
-        }
-    }
+/// Shows a script on which the two sides differ.
+fn report(script: &[u8], proved: u64, plain: u64) {
+    println!("digests: proved={proved:08x} plain={plain:08x}");
     let bytes: Vec<String> = script.iter().map(|byte| format!("{byte:02x}")).collect();
     println!("script: {}", bytes.join(""));
 }
@@ -54,7 +44,7 @@ fn compare(scripts: u32) -> u32 {
         if ours != theirs {
             differing += 1;
             if differing <= 3 {
-                report(&script, &ours, &theirs);
+                report(&script, ours, theirs);
             }
         }
     }
@@ -63,7 +53,7 @@ fn compare(scripts: u32) -> u32 {
     differing
 }
 
-fn seconds(play: fn(&[u8]) -> Played, script: &[u8]) -> f64 {
+fn seconds(play: fn(&[u8]) -> u64, script: &[u8]) -> f64 {
     let begin = Instant::now();
     black_box(play(black_box(script)));
     begin.elapsed().as_secs_f64()

@@ -5,68 +5,73 @@
 //!     3 first first length bytes    a burst, the address low byte first
 //!     4                             an interrupt read
 //!
-//! Any other byte, an incomplete call or the end stops it. The answers are folded into one number,
-//! in order; a refused run counts as 0 beats.
+//! Any other byte asks for nothing. Bytes past the end read as 0, and a burst has only the bytes that
+//! are there. The answers are folded into one number, in order, and at the end the whole state of the
+//! chip; a refused run counts as 0 beats.
 use crate::plain::{Chip, Engine, Exec, Mode, Progress, Ran};
-
-/// The bytes of a chip's state: 256 for the chip, 128 for each engine.
-pub const STATE: usize = 640;
 
 pub enum Call<'a> {
     Tick(bool),
     Run(u32),
     Burst(u16, &'a [u8]),
     Interrupts,
+    Nothing,
 }
 
 /// The first call of a script, and what follows it.
 pub fn next_call(script: &[u8]) -> Option<(Call<'_>, &[u8])> {
-    match script {
-        [1, pulse, rest @ ..] => Some((Call::Tick(*pulse == 1), rest)),
-        [2, a, b, c, d, rest @ ..] => Some((Call::Run(u32::from_le_bytes([*a, *b, *c, *d])), rest)),
-        [3, low, high, length, rest @ ..] => {
-            let (bytes, rest) = rest.split_at_checked(usize::from(*length))?;
-            Some((Call::Burst(u16::from_le_bytes([*low, *high]), bytes), rest))
+    let byte = |k: usize| script.get(k).copied().unwrap_or(0);
+    let from = |k: usize| script.get(k..).unwrap_or_default();
+    let (call, used) = match script.first()? {
+        1 => (Call::Tick(byte(1) == 1), 2),
+        2 => (Call::Run(u32::from_le_bytes([byte(1), byte(2), byte(3), byte(4)])), 5),
+        3 => {
+            let (rest, length) = (from(4), usize::from(byte(3)));
+            let bytes = rest.get(..length).unwrap_or(rest);
+            (Call::Burst(u16::from_le_bytes([byte(1), byte(2)]), bytes), 4 + length)
         }
-        [4, rest @ ..] => Some((Call::Interrupts, rest)),
-        _ => None,
-    }
+        4 => (Call::Interrupts, 1),
+        _ => (Call::Nothing, 1),
+    };
+    Some((call, from(used)))
 }
 
-fn fold(digest: u64, x: impl Into<u64>) -> u64 {
-    digest.rotate_left(5).wrapping_add(x.into())
+/// Modulo 2^32.
+fn fold(digest: u32, x: impl Into<u32>) -> u32 {
+    digest.wrapping_mul(31).wrapping_add(x.into())
 }
 
-fn fold_flags(digest: u64, flags: [bool; 3]) -> u64 {
-    flags.into_iter().fold(digest, fold)
+fn fold_all<X: Into<u32>>(digest: u32, numbers: impl IntoIterator<Item = X>) -> u32 {
+    numbers.into_iter().fold(digest, fold)
 }
 
-fn fold_run(digest: u64, answer: Result<Ran, u8>) -> u64 {
+fn fold_run(digest: u32, answer: Result<Ran, u8>) -> u32 {
     let ran = answer.unwrap_or_default();
     let digest = fold(fold(digest, answer.err().unwrap_or(0)), ran.beats);
-    ran.words.into_iter().fold(digest, fold)
+    fold_all(digest, ran.words)
 }
 
-fn call(chip: &mut Chip, call: Call, digest: u64) -> u64 {
+fn call(chip: &mut Chip, call: Call, digest: u32) -> u32 {
     match call {
         Call::Tick(pulse) => {
             let beat = chip.tick(pulse);
-            fold_flags(fold(digest, beat.pin), beat.ended)
+            fold_all(fold(digest, beat.pin), beat.ended)
         }
         Call::Run(beats) => fold_run(digest, chip.run(beats)),
         Call::Burst(first, bytes) => fold(digest, chip.burst(first, bytes)),
-        Call::Interrupts => fold_flags(digest, chip.read_interrupts()),
+        Call::Interrupts => fold_all(digest, chip.read_interrupts()),
+        Call::Nothing => digest,
     }
 }
 
-/// Makes a script's calls. Answers the folded answers and the state that the chip is left in.
-pub fn play(script: &[u8]) -> (u64, [u8; STATE]) {
+/// Makes a script's calls. Answers the folded answers and final state.
+pub fn play(script: &[u8]) -> u64 {
     let (mut chip, mut digest, mut script) = (Chip::new(), 0, script);
     while let Some((next, rest)) = next_call(script) {
         digest = call(&mut chip, next, digest);
         script = rest;
     }
-    (digest, state(&chip))
+    fold_chip(digest, &chip).into()
 }
 
 /// The beats that a script's runs do.
@@ -82,7 +87,7 @@ pub fn beats_run(script: &[u8]) -> u32 {
     beats
 }
 
-fn mode_bits(mode: Mode) -> u16 {
+fn mode_number(mode: Mode) -> u32 {
     match mode {
         Mode::Disabled => 0,
         Mode::Load => 1,
@@ -91,7 +96,7 @@ fn mode_bits(mode: Mode) -> u16 {
     }
 }
 
-fn exec_bits(exec: Exec) -> u16 {
+fn exec_number(exec: Exec) -> u32 {
     match exec {
         Exec::Hold => 0,
         Exec::Step => 1,
@@ -100,55 +105,27 @@ fn exec_bits(exec: Exec) -> u16 {
     }
 }
 
-/// The word in progress as its kind and its four numbers.
-fn progress_fields(progress: Progress) -> [u16; 5] {
+/// The word in progress: its kind, then its numbers.
+fn fold_progress(digest: u32, progress: Progress) -> u32 {
     match progress {
-        Progress::BetweenWords => [0; 5],
-        Progress::Waiting { left } => [1, left, 0, 0, 0],
-        Progress::Ramping { up, part, left, parts } => [2, left, part, parts.into(), (!up).into()],
-        Progress::Triggering { wait, send } => [3, wait.into(), send.into(), 0, 0],
+        Progress::BetweenWords => fold(digest, 0u32),
+        Progress::Waiting { left } => fold_all(digest, [1, left]),
+        Progress::Ramping { up, part, left, parts } => fold_all(digest, [2, (!up).into(), part, left, parts.into()]),
+        Progress::Triggering { wait, send } => fold_all(digest, [3, wait, send]),
     }
 }
 
-/// An engine's fields but its counts, two bytes each.
-fn engine_fields(engine: &Engine) -> [u16; 16] {
-    let [kind, p, q, r, s] = progress_fields(engine.progress);
-    [
-        mode_bits(engine.mode) + 4 * exec_bits(engine.exec),
-        engine.start.into(),
-        engine.pc.into(),
-        engine.a.into(),
-        engine.b.into(),
-        engine.mask,
-        engine.top.into(),
-        engine.bottom.into(),
-        engine.index.into(),
-        engine.pending.into(),
-        u16::from(engine.interrupt) + 2 * u16::from(engine.fault),
-        kind,
-        p,
-        q,
-        r,
-        s,
-    ]
+fn fold_engine(digest: u32, engine: &Engine) -> u32 {
+    let digest = fold_all(digest, [mode_number(engine.mode), exec_number(engine.exec)]);
+    let digest = fold_all(digest, [engine.start, engine.pc, engine.a, engine.b]);
+    let digest = fold(fold(digest, engine.mask), engine.pending);
+    let digest = fold_all(digest, [engine.top, engine.bottom, engine.index]);
+    let digest = fold_all(digest, [engine.interrupt, engine.fault]);
+    fold_all(fold_progress(digest, engine.progress), engine.loops)
 }
 
-fn put_words(bytes: &mut [u8], words: &[u16]) {
-    for (pair, word) in bytes.chunks_exact_mut(2).zip(words) {
-        pair.copy_from_slice(&word.to_le_bytes());
-    }
-}
-
-/// The chip's state: enabled, c, d, page; the outputs from 4; the memory from 16; each engine's
-/// fields and then its counts from 256, 384 and 512.
-pub fn state(chip: &Chip) -> [u8; STATE] {
-    let mut bytes = [0; STATE];
-    bytes[..4].copy_from_slice(&[chip.enabled.into(), chip.c, chip.d, chip.page]);
-    bytes[4..14].copy_from_slice(&chip.outputs);
-    put_words(&mut bytes[16..208], &chip.memory);
-    for (place, engine) in bytes[256..].chunks_exact_mut(128).zip(&chip.engines) {
-        put_words(&mut place[..32], &engine_fields(engine));
-        place[32..].copy_from_slice(&engine.loops);
-    }
-    bytes
+fn fold_chip(digest: u32, chip: &Chip) -> u32 {
+    let digest = fold_all(fold(digest, chip.enabled), [chip.c, chip.d, chip.page]);
+    let digest = fold_all(fold_all(digest, chip.memory), chip.outputs);
+    chip.engines.iter().fold(digest, fold_engine)
 }

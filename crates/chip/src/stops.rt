@@ -15,7 +15,8 @@ ghost use Rattle.chip.specs.Parts.{Fixed, Lent, chipOf};
 fn loads(k: Core) -> bool
     ensures { λ r. ⌜ ((counts : List ℕ) → r ≡ loads (engineOf k counts)) ⌝ }
 {
-    let mode = k.mode;
+    let status = k.status;
+    let mode = status.mode;
     is_load(mode)
 }
 

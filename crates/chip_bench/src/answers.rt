@@ -1,28 +1,47 @@
 // Answers, folded into one number.
 use machine::Outcome;
+ghost use mathlib.Core.List.{map};
+ghost use mathlib.Core.Path.{_≡_};
+ghost use Rattle.machine.specs.Outcome.{numberOf};
+ghost use Rattle.chip_bench.specs.Digest.{fold, foldAll, ofFlag};
 
-pub(super) fn fold(digest: u64, x: u64) -> u64 {
-    std::num::wrapping_add_u64(digest << 5 | digest >> 59, x)
-}
-
-fn wide(x: u32) -> u64 {
+pub(super) fn wide(x: u32) -> u64
+    ensures { λ r. ⌜ r ≡ x ⌝ }
+{
     x as u64
 }
 
-fn bit_of(flag: bool) -> u64 {
-    if flag { 1 } else { 0 }
+pub(super) fn fold(digest: u32, x: u32) -> u32
+    ensures { λ r. ⌜ r ≡ fold digest x ⌝ }
+{
+    ((wide(digest) * 31 + wide(x)) % 4_294_967_296) as u32
 }
 
-pub(super) fn fold_flag(digest: u64, flag: bool) -> u64 {
-    fold(digest, bit_of(flag))
+pub(super) fn flag_number(flag: bool) -> u32
+    ensures { λ r. ⌜ r ≡ ofFlag flag ⌝ }
+{
+    if flag {
+        return 1;
+    }
+    0
 }
 
-pub(super) fn fold_flags(digest: u64, flags: [bool; 3]) -> u64 {
+pub(super) fn fold_flag(digest: u32, flag: bool) -> u32
+    ensures { λ r. ⌜ r ≡ fold digest (ofFlag flag) ⌝ }
+{
+    fold(digest, flag_number(flag))
+}
+
+pub(super) fn fold_flags(digest: u32, flags: [bool; 3]) -> u32
+    ensures { λ r. ⌜ r ≡ foldAll digest (map ofFlag flags) ⌝ }
+{
     fold_flag(fold_flag(fold_flag(digest, flags[0]), flags[1]), flags[2])
 }
 
 // A refusal's number in document 01.
-fn number_of(outcome: Outcome) -> u64 {
+fn number_of(outcome: Outcome) -> u32
+    ensures { λ r. ⌜ r ≡ numberOf outcome ⌝ }
+{
     match outcome {
         Outcome::Success => 0,
         Outcome::EmptyBurst => 1,
@@ -36,14 +55,14 @@ fn number_of(outcome: Outcome) -> u64 {
     }
 }
 
-pub(super) fn fold_outcome(digest: u64, outcome: Outcome) -> u64 {
+pub(super) fn fold_outcome(digest: u32, outcome: Outcome) -> u32
+    ensures { λ r. ⌜ r ≡ fold digest (numberOf outcome) ⌝ }
+{
     fold(digest, number_of(outcome))
 }
 
-pub(super) fn fold_run(digest: u64, beats: u32, words: [u32; 3]) -> u64 {
-    let begun = fold(digest, wide(beats));
-    fold(
-        fold(fold(begun, wide(words[0])), wide(words[1])),
-        wide(words[2]),
-    )
+pub(super) fn fold_words(digest: u32, words: [u32; 3]) -> u32
+    ensures { λ r. ⌜ r ≡ foldAll digest words ⌝ }
+{
+    fold(fold(fold(digest, words[0]), words[1]), words[2])
 }

@@ -1,115 +1,94 @@
 // One call of a script.
+use super::answers::fold;
 use super::answers::fold_flag;
 use super::answers::fold_flags;
 use super::answers::fold_outcome;
-use super::answers::fold_run;
+use super::answers::fold_words;
+use super::bytes::byte_at;
+use super::bytes::clipped;
+use super::bytes::four_of;
+use super::bytes::length_of;
+use super::bytes::pair_at;
+use crate::Played;
 use machine::Chip;
+ghost use mathlib.Core.Path.{_≡_};
+ghost use Rattle.chip_bench.specs.Script.{tickCall, runCall, burstCall, interruptsCall, callOf};
 
-// The chip and the folded answers after a call, and the bytes that the call has used.
-pub(super) struct Played {
-    pub(super) chip: Chip,
-    pub(super) digest: u64,
-    pub(super) used: usize,
-}
-
-// A script that stops uses up what is left of it.
-fn stop(chip: Chip, digest: u64, left: usize) -> Played {
-    Played {
-        chip,
-        digest,
-        used: left,
-    }
-}
-
-fn wide16(x: u8) -> u16 {
-    x as u16
-}
-
-fn wide32(x: u8) -> u32 {
-    x as u32
-}
-
-// Numbers are written low byte first.
-fn number16(a: u8, b: u8) -> u16 {
-    wide16(a) | wide16(b) << 8
-}
-
-fn number32(a: u8, b: u8, c: u8, d: u8) -> u32 {
-    wide32(a) | wide32(b) << 8 | wide32(c) << 16 | wide32(d) << 24
-}
-
-fn tick_call(chip: Chip, digest: u64, script: &[u8]) -> Played {
-    if script.len() < 2 {
-        return stop(chip, digest, script.len());
-    }
-    let ticked = chip::tick(chip, script[1] == 1);
+fn tick_call(chip: Chip, digest: u32, script: &[u8]) -> Played
+    ensures { λ r. ⌜ r ≡ tickCall (now (script .entry)) chip digest ⌝ }
+{
+    let ticked = chip::tick(chip, byte_at(script, 1) == 1);
     let after = ticked.chip;
     let ended = ticked.ended;
     Played {
         chip: after,
         digest: fold_flags(fold_flag(digest, ticked.pin), ended),
-        used: 2,
+        more: 1,
     }
 }
 
-fn run_call(chip: Chip, digest: u64, script: &[u8]) -> Played {
-    if script.len() < 5 {
-        return stop(chip, digest, script.len());
-    }
-    let ran = chip::run(chip, number32(script[1], script[2], script[3], script[4]));
+fn run_call(chip: Chip, digest: u32, script: &[u8]) -> Played
+    ensures { λ r. ⌜ r ≡ runCall (now (script .entry)) chip digest ⌝ }
+{
+    let ran = chip::run(chip, four_of(pair_at(script, 1), pair_at(script, 3)));
     let after = ran.chip;
     let outcome = ran.outcome;
     let words = ran.words;
     Played {
         chip: after,
-        digest: fold_run(fold_outcome(digest, outcome), ran.beats, words),
-        used: 5,
+        digest: fold_words(fold(fold_outcome(digest, outcome), ran.beats), words),
+        more: 4,
     }
 }
 
-fn length_of(x: u8) -> usize {
-    x as usize
-}
-
-fn burst_call(chip: Chip, digest: u64, script: &[u8]) -> Played {
-    if script.len() < 4 {
-        return stop(chip, digest, script.len());
-    }
-    let length = length_of(script[3]);
-    if script.len() - 4 < length {
-        return stop(chip, digest, script.len());
-    }
-    let end = 4 + length;
-    let written = chip::burst(chip, number16(script[1], script[2]), &script[4..end]);
+fn burst_call(chip: Chip, digest: u32, script: &[u8]) -> Played
+    ensures { λ r. ⌜ r ≡ burstCall (now (script .entry)) chip digest ⌝ }
+{
+    let length = length_of(byte_at(script, 3));
+    let begin = clipped(4, script.len());
+    let end = clipped(4 + length, script.len());
+    let written = chip::burst(chip, pair_at(script, 1), &script[begin..end]);
     let after = written.chip;
     let outcome = written.outcome;
     Played {
         chip: after,
         digest: fold_outcome(digest, outcome),
-        used: end,
+        more: 3 + length,
     }
 }
 
-fn interrupts_call(chip: Chip, digest: u64) -> Played {
+fn interrupts_call(chip: Chip, digest: u32) -> Played
+    ensures { λ r. ⌜ r ≡ interruptsCall chip digest ⌝ }
+{
     let read = chip::read_interrupts(chip);
     let after = read.chip;
     let flags = read.flags;
     Played {
         chip: after,
         digest: fold_flags(digest, flags),
-        used: 1,
+        more: 0,
     }
 }
 
-pub(super) fn one_call(chip: Chip, digest: u64, script: &[u8]) -> Played {
-    if script.len() == 0 {
-        return stop(chip, digest, 0);
+pub(super) fn one_call(chip: Chip, digest: u32, script: &[u8]) -> Played
+    ensures { λ r. ⌜ r ≡ callOf (now (script .entry)) chip digest ⌝ }
+{
+    let kind = byte_at(script, 0);
+    if kind == 1 {
+        return tick_call(chip, digest, script);
     }
-    match script[0] {
-        1 => tick_call(chip, digest, script),
-        2 => run_call(chip, digest, script),
-        3 => burst_call(chip, digest, script),
-        4 => interrupts_call(chip, digest),
-        _ => stop(chip, digest, script.len()),
+    if kind == 2 {
+        return run_call(chip, digest, script);
+    }
+    if kind == 3 {
+        return burst_call(chip, digest, script);
+    }
+    if kind == 4 {
+        return interrupts_call(chip, digest);
+    }
+    Played {
+        chip,
+        digest,
+        more: 0,
     }
 }

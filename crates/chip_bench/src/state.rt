@@ -1,6 +1,7 @@
-// The chip's state as bytes, numbers low byte first: enabled, c, d, page; the outputs from 4; the
-// memory from 16; each engine's fields and then its counts from 256, 384 and 512.
-ghost use Prim.Native.Nat.{_≤_};
+// The chip's state, folded into one number.
+use super::answers::flag_number;
+use super::answers::fold;
+use super::answers::fold_flag;
 use machine::Chip;
 use machine::Engine;
 use machine::Exec;
@@ -8,30 +9,26 @@ use machine::Mode;
 use machine::Output;
 use machine::Progress;
 use word::Direction;
+ghost use mathlib.Core.List.{[], _∷_, map};
+ghost use mathlib.Core.Path.{_≡_};
+ghost use Rattle.chip_bench.specs.Digest.{foldAll};
+ghost use Rattle.chip_bench.specs.State.{ofMode, ofExec, ofDirection, ofProgress, ofFields, ofEngine, ofEngines, ofOutput, ofChip};
 
-// Past the end of `out` nothing is written.
-fn put(out: &mut [u8], at: usize, x: u8) {
-    if at < out.len() {
-        out[at] = x;
-    }
-}
-
-fn put_number(out: &mut [u8], at: usize, x: u16)
-    requires { ⌜ at ≤ 1000 ⌝ }
+fn wide8(x: u8) -> u32
+    ensures { λ r. ⌜ r ≡ x ⌝ }
 {
-    put(out, at, (x % 256) as u8);
-    put(out, at + 1, (x / 256) as u8);
+    x as u32
 }
 
-fn wide(x: u8) -> u16 {
-    x as u16
+fn wide16(x: u16) -> u32
+    ensures { λ r. ⌜ r ≡ x ⌝ }
+{
+    x as u32
 }
 
-fn bit_of(flag: bool) -> u16 {
-    if flag { 1 } else { 0 }
-}
-
-fn mode_bits(mode: Mode) -> u16 {
+fn mode_number(mode: Mode) -> u32
+    ensures { λ r. ⌜ r ≡ ofMode mode ⌝ }
+{
     match mode {
         Mode::Disabled => 0,
         Mode::Load => 1,
@@ -40,7 +37,9 @@ fn mode_bits(mode: Mode) -> u16 {
     }
 }
 
-fn exec_bits(exec: Exec) -> u16 {
+fn exec_number(exec: Exec) -> u32
+    ensures { λ r. ⌜ r ≡ ofExec exec ⌝ }
+{
     match exec {
         Exec::Hold => 0,
         Exec::Step => 1,
@@ -49,104 +48,147 @@ fn exec_bits(exec: Exec) -> u16 {
     }
 }
 
-fn sign_of(dir: Direction) -> u16 {
+fn direction_number(dir: Direction) -> u32
+    ensures { λ r. ⌜ r ≡ ofDirection dir ⌝ }
+{
     match dir {
         Direction::Up => 0,
         Direction::Down => 1,
     }
 }
 
-// The word in progress as its kind and its four numbers.
-fn progress_fields(progress: Progress) -> [u16; 5] {
+fn fold_four(digest: u32, w: u32, x: u32, y: u32, z: u32) -> u32
+    ensures { λ r. ⌜ r ≡ foldAll digest (w ∷ x ∷ y ∷ z ∷ []) ⌝ }
+{
+    fold(fold(fold(fold(digest, w), x), y), z)
+}
+
+fn fold_ramp(digest: u32, dir: Direction, part: u16, left: u16, parts: u16) -> u32
+    ensures { λ r. ⌜ r ≡ foldAll digest (ofDirection dir ∷ part ∷ left ∷ parts ∷ []) ⌝ }
+{
+    fold_four(
+        digest,
+        direction_number(dir),
+        wide16(part),
+        wide16(left),
+        wide16(parts),
+    )
+}
+
+fn fold_progress(digest: u32, progress: Progress) -> u32
+    ensures { λ r. ⌜ r ≡ foldAll digest (ofProgress progress) ⌝ }
+{
     match progress {
-        Progress::BetweenWords => [0, 0, 0, 0, 0],
-        Progress::Waiting { left } => [1, left, 0, 0, 0],
+        Progress::BetweenWords => fold(digest, 0),
+        Progress::Waiting { left } => fold(fold(digest, 1), wide16(left)),
         Progress::Ramping {
             dir,
             part,
             left,
             parts,
-        } => [2, left, part, parts, sign_of(dir)],
-        Progress::Triggering { wait, send } => [3, wait, send, 0, 0],
+        } => fold_ramp(fold(digest, 2), dir, part, left, parts),
+        Progress::Triggering { wait, send } => {
+            fold(fold(fold(digest, 3), wide16(wait)), wide16(send))
+        }
     }
 }
 
-// An engine's fields but its counts.
-fn engine_fields(e: Engine) -> [u16; 16] {
+fn fold_counts(digest: u32, counts: [u8; 96]) -> u32
+    ensures { λ r. ⌜ r ≡ foldAll digest counts ⌝ }
+{
+    let mut folded = digest;
+    let mut k: usize = 0;
+    while k < 96 {
+        folded = fold(folded, wide8(counts[k]));
+        k += 1;
+    }
+    folded
+}
+
+fn fold_memory(digest: u32, memory: [u16; 96]) -> u32
+    ensures { λ r. ⌜ r ≡ foldAll digest memory ⌝ }
+{
+    let mut folded = digest;
+    let mut k: usize = 0;
+    while k < 96 {
+        folded = fold(folded, wide16(memory[k]));
+        k += 1;
+    }
+    folded
+}
+
+fn fold_outputs(digest: u32, outputs: [Output; 10]) -> u32
+    ensures { λ r. ⌜ r ≡ foldAll digest (map ofOutput outputs) ⌝ }
+{
+    let mut folded = digest;
+    let mut k: usize = 0;
+    while k < 10 {
+        let output = outputs[k];
+        folded = fold(folded, wide8(output.level));
+        k += 1;
+    }
+    folded
+}
+
+// An engine but the word in progress and the counts.
+fn fold_fields(digest: u32, e: Engine) -> u32
+    ensures { λ r. ⌜ r ≡ foldAll digest (ofFields e) ⌝ }
+{
     let mode = e.mode;
     let exec = e.exec;
+    let place = fold_four(
+        digest,
+        mode_number(mode),
+        exec_number(exec),
+        wide16(e.start.0),
+        wide16(e.pc.0),
+    );
+    let held = fold_four(
+        place,
+        wide8(e.a),
+        wide8(e.b),
+        wide16(e.mask),
+        wide16(e.pending),
+    );
+    let table = fold_four(
+        held,
+        wide16(e.table.top.0),
+        wide16(e.table.bottom.0),
+        wide16(e.table.index.0),
+        flag_number(e.interrupt),
+    );
+    fold_flag(table, e.fault)
+}
+
+fn fold_engine(digest: u32, e: Engine) -> u32
+    ensures { λ r. ⌜ r ≡ foldAll digest (ofEngine e) ⌝ }
+{
     let progress = e.progress;
-    let p = progress_fields(progress);
-    [
-        mode_bits(mode) | exec_bits(exec) << 2,
-        e.start.0,
-        e.pc.0,
-        wide(e.a),
-        wide(e.b),
-        e.mask,
-        e.table.top.0,
-        e.table.bottom.0,
-        e.table.index.0,
-        e.pending,
-        bit_of(e.interrupt) | bit_of(e.fault) << 1,
-        p[0],
-        p[1],
-        p[2],
-        p[3],
-        p[4],
-    ]
-}
-
-fn put_fields(out: &mut [u8], base: usize, fields: [u16; 16])
-    requires { ⌜ base ≤ 512 ⌝ }
-{
-    for k in 0..16usize {
-        put_number(out, base + 2 * k, fields[k]);
-    }
-}
-
-fn put_loops(out: &mut [u8], base: usize, loops: [u8; 96])
-    requires { ⌜ base ≤ 544 ⌝ }
-{
-    for k in 0..96usize {
-        put(out, base + k, loops[k]);
-    }
-}
-
-fn put_engine(out: &mut [u8], base: usize, e: Engine)
-    requires { ⌜ base ≤ 512 ⌝ }
-{
     let loops = e.loops;
-    put_fields(out, base, engine_fields(e));
-    put_loops(out, base + 32, loops);
+    fold_counts(fold_progress(fold_fields(digest, e), progress), loops)
 }
 
-fn put_outputs(out: &mut [u8], outputs: [Output; 10]) {
-    for k in 0..10usize {
-        put(out, 4 + k, outputs[k].level);
-    }
+fn fold_engines(digest: u32, engines: [Engine; 3]) -> u32
+    ensures { λ r. ⌜ r ≡ foldAll digest (ofEngines engines) ⌝ }
+{
+    let one = engines[0];
+    let two = engines[1];
+    let three = engines[2];
+    fold_engine(fold_engine(fold_engine(digest, one), two), three)
 }
 
-fn put_memory(out: &mut [u8], memory: [u16; 96]) {
-    for k in 0..96usize {
-        put_number(out, 16 + 2 * k, memory[k]);
-    }
-}
-
-fn enabled_byte(enabled: bool) -> u8 {
-    if enabled { 1 } else { 0 }
-}
-
-pub(super) fn put_state(out: &mut [u8], chip: Chip) {
-    let outputs = chip.outputs;
+pub(super) fn fold_chip(digest: u32, chip: Chip) -> u32
+    ensures { λ r. ⌜ r ≡ foldAll digest (ofChip chip) ⌝ }
+{
     let memory = chip.memory;
-    put(out, 0, enabled_byte(chip.enabled));
-    put(out, 1, chip.c);
-    put(out, 2, chip.d);
-    put(out, 3, chip.page);
-    put_outputs(out, outputs);
-    put_memory(out, memory);
-    put_engine(out, 256, chip.engines[0]);
-    put_engine(out, 384, chip.engines[1]);
-    put_engine(out, 512, chip.engines[2]);
+    let outputs = chip.outputs;
+    let engines = chip.engines;
+    let begun = fold_four(
+        digest,
+        flag_number(chip.enabled),
+        wide8(chip.c),
+        wide8(chip.d),
+        wide8(chip.page),
+    );
+    fold_engines(fold_outputs(fold_memory(begun, memory), outputs), engines)
 }

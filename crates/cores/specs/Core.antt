@@ -6,4 +6,4 @@ use Rattle.cores.specs.declared.Core.{Core}
 
 -- The engine that a core and its branch counts are.
 abbrev pub engineOf : Core → List ℕ → Engine
-engineOf k counts = record { mode = k .mode; exec = k .exec; start = k .start; pc = k .pc; a = k .a; b = k .b; mask = k .mask; table = k .table; pending = k .pending; interrupt = k .interrupt; fault = k .fault; progress = k .progress; loops = counts }
+engineOf k counts = record { mode = k .status .mode; exec = k .status .exec; start = k .start; pc = k .pc; a = k .a; b = k .b; mask = k .mask; table = k .table; pending = k .pending; interrupt = k .interrupt; fault = k .fault; progress = k .status .progress; loops = counts }

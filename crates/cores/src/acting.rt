@@ -35,9 +35,10 @@ fn is_hold(exec: Exec) -> bool
 pub fn acts(k: Core) -> bool
     ensures { λ r. ⌜ ((counts : List ℕ) → r ≡ acts (engineOf k counts)) ⌝ }
 {
-    let mode = k.mode;
-    let progress = k.progress;
-    let exec = k.exec;
+    let status = k.status;
+    let mode = status.mode;
+    let progress = status.progress;
+    let exec = status.exec;
     if !is_run(mode) {
         return false;
     }

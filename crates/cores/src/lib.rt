@@ -16,18 +16,24 @@ pub use state::mid_word;
 use word::Address;
 use word::Step;
 
-// An engine without its branch counts. The fields that change together stand together.
-pub struct Core {
+// What the host and the words set together: the fields that are enums. A field that is a struct can be
+// set by itself.
+pub struct Status {
     pub mode: Mode,
     pub exec: Exec,
-    pub pc: Step,
+    pub progress: Progress,
+}
+
+// An engine without its branch counts. What a beat changes most stands last, side by side.
+pub struct Core {
+    pub start: Address,
+    pub table: Pointers,
     pub a: u8,
     pub b: u8,
     pub interrupt: bool,
     pub fault: bool,
-    pub pending: u16,
     pub mask: u16,
-    pub progress: Progress,
-    pub start: Address,
-    pub table: Pointers,
+    pub pending: u16,
+    pub pc: Step,
+    pub status: Status,
 }

@@ -1,5 +1,6 @@
 // A core taken from an engine, and put together with its branch counts again.
 use crate::Core;
+use crate::Status;
 use machine::Engine;
 ghost use mathlib.Core.Path.{_≡_};
 ghost use Rattle.cores.specs.Core.{engineOf};
@@ -15,18 +16,20 @@ pub fn core_of(e: Engine) -> Core
     let start = e.start;
     let table = e.table;
     Core {
-        mode,
-        exec,
-        pc,
+        start,
+        table,
         a: e.a,
         b: e.b,
         interrupt: e.interrupt,
         fault: e.fault,
-        pending: e.pending,
         mask: e.mask,
-        progress,
-        start,
-        table,
+        pending: e.pending,
+        pc,
+        status: Status {
+            mode,
+            exec,
+            progress,
+        },
     }
 }
 
@@ -34,12 +37,13 @@ pub fn core_of(e: Engine) -> Core
 pub fn engine_of(own: Core, counts: [u8; 96]) -> Engine
     ensures { λ r. ⌜ r ≡ engineOf own counts ⌝ }
 {
-    let mode = own.mode;
-    let exec = own.exec;
+    let status = own.status;
+    let mode = status.mode;
+    let exec = status.exec;
     let start = own.start;
     let pc = own.pc;
     let table = own.table;
-    let progress = own.progress;
+    let progress = status.progress;
     Engine {
         mode,
         exec,

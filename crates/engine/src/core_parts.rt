@@ -1,5 +1,6 @@
 // A core with some of its parts changed.
 use cores::Core;
+use cores::Status;
 use machine::Exec;
 use machine::Mode;
 use machine::Pointers;
@@ -11,33 +12,25 @@ ghost use Prim.Native.Nat.{ℕ};
 ghost use Rattle.machine.specs.Parts.{withMode, withExec, withPc, withMask, withTable, withPending, withInterrupt, withFault, withProgress, withVariables};
 ghost use Rattle.cores.specs.Core.{engineOf};
 
-// The parts that are enums can only be set by making the core anew.
-pub(super) fn with_state(k: Core, mode: Mode, exec: Exec, pc: Step, progress: Progress) -> Core
+pub(super) fn with_state(mut k: Core, mode: Mode, exec: Exec, pc: Step, progress: Progress) -> Core
     ensures { λ r. ⌜ ((counts : List ℕ) → engineOf r counts ≡ withMode mode (withExec exec (withPc pc (withProgress progress (engineOf k counts))))) ⌝ }
 {
-    let start = k.start;
-    let table = k.table;
-    Core {
+    let status = Status {
         mode,
         exec,
-        pc,
-        a: k.a,
-        b: k.b,
-        interrupt: k.interrupt,
-        fault: k.fault,
-        pending: k.pending,
-        mask: k.mask,
         progress,
-        start,
-        table,
-    }
+    };
+    k.status = status;
+    k.pc = pc;
+    k
 }
 
 pub(super) fn with_progress(k: Core, progress: Progress) -> Core
     ensures { λ r. ⌜ ((counts : List ℕ) → engineOf r counts ≡ withProgress progress (engineOf k counts)) ⌝ }
 {
-    let mode = k.mode;
-    let exec = k.exec;
+    let status = k.status;
+    let mode = status.mode;
+    let exec = status.exec;
     let pc = k.pc;
     with_state(k, mode, exec, pc, progress)
 }

@@ -38,9 +38,10 @@ fn held(k: Core, int: bool, pc: Step) -> Core
     ensures { λ r. ⌜ ((counts : List ℕ) → engineOf r counts ≡ withExec Hold (finish pc (withInterrupt (k .interrupt || int) (engineOf k counts)))) ⌝ }
 {
     let f = finish(with_interrupt(k, k.interrupt | int), pc);
-    let mode = f.mode;
+    let status = f.status;
+    let mode = status.mode;
     let after = f.pc;
-    let progress = f.progress;
+    let progress = status.progress;
     with_state(f, mode, Exec::Hold, after, progress)
 }
 
@@ -83,9 +84,10 @@ pub(super) fn faults(k: Core, c: u8) -> CoreAct
     ensures { λ r. ⌜ ((counts : List ℕ) → actOf r counts ≡ faults c (engineOf k counts)) ⌝ }
 {
     let f = with_fault(k, true);
-    let exec = f.exec;
+    let status = f.status;
+    let exec = status.exec;
     let pc = f.pc;
-    let progress = f.progress;
+    let progress = status.progress;
     let own = with_state(f, Mode::Halt, exec, pc, progress);
     CoreAct {
         own,

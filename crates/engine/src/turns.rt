@@ -54,9 +54,10 @@ fn fetch(k: Core, c: u8, d: u8, memory: &[u16; 96], counts: &mut [u8; 96]) -> Co
 
 // A beat of an engine that acts, by its word in progress.
 fn beat(k: Core, c: u8, d: u8, memory: &[u16; 96], counts: &mut [u8; 96]) -> CoreAct
-    ensures { λ r. ⌜ actOf r (now (counts .exit)) ≡ beatOf LP5523 c d (now (memory .entry)) (engineOf k (now (counts .entry))) (k .progress) ⌝ }
+    ensures { λ r. ⌜ actOf r (now (counts .exit)) ≡ beatOf LP5523 c d (now (memory .entry)) (engineOf k (now (counts .entry))) (k .status .progress) ⌝ }
 {
-    let progress = k.progress;
+    let status = k.status;
+    let progress = status.progress;
     match progress {
         Progress::BetweenWords => fetch(k, c, d, memory, counts),
         Progress::Waiting { left } => waits(k, c, left),
@@ -84,7 +85,7 @@ fn rests(k: Core, c: u8) -> CoreAct
 
 // An engine's turn, with the branch counts, which it may change.
 pub fn turn(k: Core, c: u8, d: u8, memory: &[u16; 96], counts: &mut [u8; 96]) -> CoreAct
-    ensures { λ r. ⌜ actOf r (now (counts .exit)) ≡ cond (acts (engineOf k (now (counts .entry)))) (beatOf LP5523 c d (now (memory .entry)) (engineOf k (now (counts .entry))) (k .progress)) (rests c (engineOf k (now (counts .entry)))) ⌝ }
+    ensures { λ r. ⌜ actOf r (now (counts .exit)) ≡ cond (acts (engineOf k (now (counts .entry)))) (beatOf LP5523 c d (now (memory .entry)) (engineOf k (now (counts .entry))) (k .status .progress)) (rests c (engineOf k (now (counts .entry)))) ⌝ }
 {
     if !acts(k) {
         return rests(k, c);

@@ -45,8 +45,9 @@ fn exec_after(exec: Exec) -> Exec
 pub(super) fn finish(k: Core, pc: Step) -> Core
     ensures { λ r. ⌜ ((counts : List ℕ) → engineOf r counts ≡ finish pc (engineOf k counts)) ⌝ }
 {
-    let mode = k.mode;
-    let exec = k.exec;
+    let status = k.status;
+    let mode = status.mode;
+    let exec = status.exec;
     let old = k.pc;
     with_state(
         k,

@@ -14,4 +14,4 @@ faults-spec =
     (tie.spec
     (search needs)
     (search needs)
-    (λ c counts. ap (act _ _ 0 false) (c .with-state .ensures counts ∙ ap (withMode Halt) (c .before .before .with-fault .ensures counts))))
+    (λ c counts. ap (act _ _ 0 false) (c .with-state .ensures counts ∙ ap (withMode Halt) (c .before .before .before .with-fault .ensures counts))))

@@ -15,6 +15,6 @@ held-spec =
     (search needs)
     (search needs)
     (λ c counts.
-    let c2 = c .before .before in
+    let c2 = c .before .before .before in
     c .with-state .ensures counts
     ∙ ap (withExec Hold) (c2 .finish .ensures counts ∙ ap (finish _) (c2 .before .with-interrupt .ensures counts))))
