@@ -13,17 +13,18 @@ use Rattle.machine.specs.Parts.{bit, each}
 use Rattle.machine.specs.Outputs.{rowBit, holder, outputAfter, affected}
 use Rattle.chip.specs.Parts.{outputOf, levelAfter, levelsAfter}
 
-same : (b : Bool) (n : ℕ) → cond b n n ≡ n
-same true n = refl
-same false n = refl
+pub same : {A : Type 0} (b : Bool) (x : A) → cond b x x ≡ x
+same true x = refl
+same false x = refl
+
+-- a change that leaves every element leaves the list
+pub each-none : {A : Type 0} (f : ℕ → A → A) → ((k : ℕ) (x : A) → f k x ≡ x) → (i : ℕ) (xs : List A) → each f i xs ≡ xs
+each-none f h i [] = refl
+each-none f h i (x ∷ xs) = ap₂ (λ (y : _) (ys : List _). y ∷ ys) (h i x) (each-none f h (suc i) xs)
 
 -- a beat that keeps the outputs keeps the levels
 pub levels-kept : (held : ℕ) (levels : List ℕ) → levelsAfter held Keep levels ≡ levels
-levels-kept held levels = go 0 levels
-  where
-    go : (i : ℕ) (xs : List ℕ) → each (levelAfter held Keep) i xs ≡ xs
-    go i [] = refl
-    go i (x ∷ xs) = ap₂ (λ (y : ℕ) (ys : List ℕ). y ∷ ys) (same (bit held (rowBit LP5523 i)) x) (go (suc i) xs)
+levels-kept held levels = each-none (levelAfter held Keep) (λ k n. same (bit held (rowBit LP5523 k)) n) 0 levels
 
 -- the row bits of the outputs that engine i, counted from 0, holds
 abbrev pub Holds : ℕ → List Engine → ℕ → Type 0

@@ -1,5 +1,5 @@
 -- A turn, from what the code computes of it.
-use Prim.Native.Nat.{ℕ, suc, _+_, _%_, _^_}
+use Prim.Native.Nat.{ℕ, _+_, _%_, _^_}
 use mathlib.Core.Bool.{Bool, true, false, not, cond, _&&_, _||_}
 use mathlib.Core.List.{List, [], _∷_, map}
 use mathlib.Core.Path.{_≡_, refl, sym, _∙_, ap, ap₂}
@@ -24,15 +24,7 @@ use Rattle.machine.proofs.Safety.{turn-acts, turn-rests}
 use Rattle.plan.proofs.Laws.{by-test}
 use Rattle.engine.specs.Act.{rests}
 use Rattle.chip.specs.Parts.{outputOf, levelsAfter}
-use Rattle.chip.proofs.Levels.{Holds, outputs-by-levels}
-
-each-none : {A : Type 0} (f : ℕ → A → A) → ((k : ℕ) (x : A) → f k x ≡ x) → (i : ℕ) (xs : List A) → each f i xs ≡ xs
-each-none f h i [] = refl
-each-none f h i (x ∷ xs) = ap₂ (λ (y : _) (ys : List _). y ∷ ys) (h i x) (each-none f h (suc i) xs)
-
-same : {A : Type 0} (b : Bool) (x : A) → cond b x x ≡ x
-same true x = refl
-same false x = refl
+use Rattle.chip.proofs.Levels.{same, each-none, Holds, outputs-by-levels}
 
 keeps-output : (P : Profile) (es : List Engine) (i k : ℕ) (o : Output) → outputAfter P es i Keep k o ≡ o
 unfolding outputAfter

@@ -2,8 +2,6 @@
 // 01's; each call is proved equal to its definition in crate machine, for every chip value and every
 // input.
 mod beats;
-mod interrupts;
-mod new;
 mod outputs;
 mod parts;
 mod pending;
@@ -12,9 +10,9 @@ mod stops;
 mod ticks;
 mod turns;
 
+pub use chip_state::new_chip;
+pub use chip_state::read_interrupts;
 use cores::Core;
-pub use interrupts::read_interrupts;
-pub use new::new_chip;
 pub use registers::burst;
 pub use runs::run;
 pub use ticks::tick;

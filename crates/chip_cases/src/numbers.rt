@@ -21,9 +21,10 @@ fn digit_of(byte: u8) -> u32 {
     16
 }
 
-// The largest number stands for those above it.
+// A number above the largest is said to be so, and the largest stands for it.
 fn narrow(n: u64) -> u32 {
     if n > 4294967295 {
+        print::text(b" number too large");
         return 4294967295;
     }
     n as u32

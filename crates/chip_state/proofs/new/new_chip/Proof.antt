@@ -1,4 +1,4 @@
--- `chip::new::new_chip` meets its contract.
+-- `chip_state::new::new_chip` meets its contract.
 use mathlib.Core.List.{[], _∷_}
 use mathlib.Core.Path.{ap}
 use borrow.Author.Needs.{needs}
@@ -6,8 +6,8 @@ use Rattle.word.specs.Profile.{LP5523}
 use Rattle.machine.specs.declared.Engine.{Engine}
 use Rattle.machine.specs.Parts.{withEngines}
 use Rattle.machine.specs.NewChip.{newChip}
-use Rattle.chip.proofs.new.new_chip.Statement.{statement}
-use Rattle.chip.proofs.new.new_chip.Tie as tie
+use Rattle.chip_state.proofs.new.new_chip.Statement.{statement}
+use Rattle.chip_state.proofs.new.new_chip.Tie as tie
 
 pub new-chip-spec : {M : Type 1} → statement M
 new-chip-spec =

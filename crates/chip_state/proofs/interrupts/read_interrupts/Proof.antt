@@ -1,4 +1,4 @@
--- `chip::interrupts::read_interrupts` meets its contract.
+-- `chip_state::interrupts::read_interrupts` meets its contract.
 use mathlib.Core.Bool.{Bool}
 use mathlib.Core.List.{List}
 use mathlib.Core.Path.{ap₂}
@@ -8,8 +8,8 @@ use Rattle.machine.specs.declared.Chip.{Chip}
 use Rattle.machine.specs.declared.Interrupts.{Interrupts}
 use Rattle.machine.specs.Parts.{withEngines}
 use Rattle.machine.specs.Interrupts.{readOf}
-use Rattle.chip.proofs.interrupts.read_interrupts.Statement.{statement}
-use Rattle.chip.proofs.interrupts.read_interrupts.Tie as tie
+use Rattle.chip_state.proofs.interrupts.read_interrupts.Statement.{statement}
+use Rattle.chip_state.proofs.interrupts.read_interrupts.Tie as tie
 
 abbrev answer : Chip → List Engine → List Bool → Interrupts
 answer m es flags = record { chip = withEngines es m; flags = flags }

@@ -1,12 +1,12 @@
--- `chip::interrupts::flags_of` meets its contract.
+-- `chip_state::interrupts::flags_of` meets its contract.
 use mathlib.Core.List.{map}
 use mathlib.Core.Path.{_≡_, sym, ap}
 use lib.ListN.{length}
 use borrow.Author.Needs.{needs}
 use Rattle.machine.specs.declared.Engine.{Engine}
 use Rattle.registers.proofs.Three.{three}
-use Rattle.chip.proofs.interrupts.flags_of.Statement.{statement}
-use Rattle.chip.proofs.interrupts.flags_of.Tie as tie
+use Rattle.chip_state.proofs.interrupts.flags_of.Statement.{statement}
+use Rattle.chip_state.proofs.interrupts.flags_of.Tie as tie
 
 pub flags-of-spec : {M : Type 1} → statement M
 flags-of-spec =

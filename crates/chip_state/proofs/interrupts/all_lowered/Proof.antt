@@ -1,12 +1,12 @@
--- `chip::interrupts::all_lowered` meets its contract.
+-- `chip_state::interrupts::all_lowered` meets its contract.
 use mathlib.Core.Bool.{false}
 use mathlib.Core.Path.{_≡_}
 use lib.ListN.{length}
 use borrow.Author.Needs.{needs}
 use Rattle.machine.specs.Parts.{withInterrupt}
 use Rattle.registers.proofs.Three.{each-three}
-use Rattle.chip.proofs.interrupts.all_lowered.Statement.{statement}
-use Rattle.chip.proofs.interrupts.all_lowered.Tie as tie
+use Rattle.chip_state.proofs.interrupts.all_lowered.Statement.{statement}
+use Rattle.chip_state.proofs.interrupts.all_lowered.Tie as tie
 
 pub all-lowered-spec : {M : Type 1} → statement M
 all-lowered-spec =
