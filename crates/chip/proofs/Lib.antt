@@ -3,4 +3,6 @@ pub mod Engines
 pub mod Levels
 pub mod Loops
 pub mod TurnOf
+pub mod IdleOf
+pub mod SpanOf
 pub mod RunOf

@@ -35,9 +35,13 @@ unfolding receives
 receives-none i j e =
     ap (λ (n : ℕ). cond (eqb (n % 2) 1) (withPending (bitOr (e .pending) (2 ^ i)) e) e) (zero-div (2 ^ j))
 
+-- an act that keeps the outputs and sends nothing changes the engine alone
+pub applied-alone : (P : Profile) (i : ℕ) (m : Chip) (own : Engine) → applied P i m (record { own = own; c = m .c; effect = Keep; send = 0; ended = false }) ≡ record { chip = withEngines (set (m .engines) i own) m; send = 0; ended = false }
+applied-alone P i m own = ap₂ (λ (os : List Output) (es : List Engine). record { chip = record { enabled = m .enabled; c = m .c; d = m .d; page = m .page; memory = m .memory; outputs = os; engines = es }; send = 0; ended = false }) (each-none (outputAfter P (m .engines) i Keep) (keeps-output P (m .engines) i) 0 (m .outputs)) (each-none (receives i 0) (receives-none i) 0 (set (m .engines) i own))
+
 -- an engine that doesn't act changes nothing
 applied-rests : (P : Profile) (i : ℕ) (m : Chip) → set (m .engines) i (engineAt P m i) ≡ m .engines → applied P i m (rests (m .c) (engineAt P m i)) ≡ record { chip = m; send = 0; ended = false }
-applied-rests P i m h = ap₂ (λ (os : List Output) (es : List Engine). record { chip = record { enabled = m .enabled; c = m .c; d = m .d; page = m .page; memory = m .memory; outputs = os; engines = es }; send = 0; ended = false }) (each-none (outputAfter P (m .engines) i Keep) (keeps-output P (m .engines) i) 0 (m .outputs)) (each-none (receives i 0) (receives-none i) 0 _ ∙ h)
+applied-rests P i m h = applied-alone P i m (engineAt P m i) ∙ ap (λ (es : List Engine). record { chip = withEngines es m; send = 0; ended = false }) h
 
 -- a turn is what the engine does, applied to the chip
 pub turn-is : (P : Profile) (i : ℕ) (m : Chip) (t : Act) (d : ℕ) (memory : List ℕ) → set (m .engines) i (engineAt P m i) ≡ m .engines → m .d ≡ d → m .memory ≡ memory → t ≡ cond (acts (engineAt P m i)) (beatOf P (m .c) d memory (engineAt P m i) (engineAt P m i .progress)) (rests (m .c) (engineAt P m i)) → applied P i m t ≡ turn P i m

@@ -1,6 +1,7 @@
--- A chip, and what a turn, a beat and a run give, put together from the parts that the code keeps; and the outputs' levels after a beat.
-use Prim.Native.Nat.{ℕ}
-use mathlib.Core.Bool.{Bool, cond}
+-- A chip, and what a turn, a beat and beats one after another give, put together from the parts that the code keeps; the outputs' levels
+-- after a beat; and beats one after another.
+use Prim.Native.Nat.{ℕ, zero, suc}
+use mathlib.Core.Bool.{Bool, false, cond}
 use mathlib.Core.List.{List, [], _∷_, map}
 use Rattle.word.specs.Profile.{LP5523}
 use Rattle.machine.specs.declared.Chip.{Chip}
@@ -12,10 +13,13 @@ use Rattle.machine.specs.declared.Ticked.{Ticked}
 use Rattle.machine.specs.declared.Ran.{Ran}
 use Rattle.machine.specs.Parts.{bit, each, engineAt}
 use Rattle.machine.specs.Outputs.{rowBit, affected}
+use Rattle.machine.specs.Tick.{tick}
+use Rattle.machine.specs.Run.{quiet, oneMore, beginning}
 use Rattle.cores.specs.Core.{engineOf}
 use Rattle.chip.specs.declared.Cores.{Cores}
 use Rattle.chip.specs.declared.CoresTurned.{CoresTurned}
 use Rattle.chip.specs.declared.CoresTicked.{CoresTicked}
+use Rattle.chip.specs.declared.CoresRan.{CoresRan}
 
 abbrev pub outputOf : ℕ → Output
 outputOf n = record { level = n }
@@ -73,6 +77,25 @@ fixedOf m = record { enabled = m .enabled; d = m .d; page = m .page; memory = m 
 abbrev pub lentOf : Chip → Lent
 lentOf m = lent (map levelOf (m .outputs)) (engineAt LP5523 m 0 .loops) (engineAt LP5523 m 1 .loops) (engineAt LP5523 m 2 .loops)
 
--- What a run under way would answer.
-abbrev pub ranOf : Fixed → Cores → Lent → ℕ → List ℕ → Ran
-ranOf f k l beats words = record { outcome = Success; chip = chipOf f k l; beats = beats; words = words }
+-- Beats one after another: what a run of them answers, and whether the last sent to the pin.
+pub record Span : Type 0 where
+  pub ran : Ran
+  pub pin : Bool
+
+abbrev pub spanned : Fixed → CoresRan → Lent → Span
+spanned f r l =
+    record {
+      ran = record { outcome = Success; chip = chipOf f (r .cores) l; beats = r .beats; words = r .words1 ∷ r .words2 ∷ r .words3 ∷ [] };
+      pin = r .pin;
+    }
+
+abbrev pub noBeat : Chip → Span
+noBeat m = record { ran = beginning LP5523 Success m; pin = false }
+
+abbrev pub oneBeatMore : Span → Span
+oneBeatMore s = record { ran = oneMore LP5523 (s .ran); pin = tick LP5523 false (s .ran .chip) .pin }
+
+-- At most n beats more, up to the first before which all is quiet.
+unfoldable pub spanOf : ℕ → Span → Span
+spanOf zero s = s
+spanOf (suc n) s = cond (quiet (s .ran .chip)) s (spanOf n (oneBeatMore s))

@@ -1,4 +1,6 @@
-// The three turns of a beat.
+// A beat: the three turns, or waits counted down where no engine does more.
+use super::idle::all_idle;
+use super::idle::all_idled;
 use super::pending::to_pin;
 use super::turns::turn_one;
 use super::turns::turn_three;
@@ -34,6 +36,15 @@ pub(super) fn beat(
 ) -> CoresTicked
     ensures { λ r. ⌜ ((f : Fixed) → f .d ≡ d → f .memory ≡ now (memory .entry) → tickedOf f r (lent (now (levels .exit)) (now (counts1 .exit)) (now (counts2 .exit)) (now (counts3 .exit))) ≡ turns LP5523 3 0 (chipOf f k (lent (now (levels .entry)) (now (counts1 .entry)) (now (counts2 .entry)) (now (counts3 .entry))))) ⌝ }
 {
+    if all_idle(k) {
+        return CoresTicked {
+            cores: all_idled(k),
+            pin: false,
+            ended1: false,
+            ended2: false,
+            ended3: false,
+        };
+    }
     let t1 = turn_one(k, d, memory, levels, counts1);
     let k1 = t1.cores;
     let t2 = turn_two(k1, d, memory, levels, counts2);

@@ -2,10 +2,12 @@
 // 01's; each call is proved equal to its definition in crate machine, for every chip value and every
 // input.
 mod beats;
+mod idle;
 mod outputs;
 mod parts;
 mod pending;
 mod runs;
+mod spans;
 mod stops;
 mod ticks;
 mod turns;
@@ -39,4 +41,15 @@ pub struct CoresTicked {
     pub ended1: bool,
     pub ended2: bool,
     pub ended3: bool,
+}
+
+// What beats one after another give: whether the last sent to the pin, how many there were, and the
+// words that each engine finished.
+pub struct CoresRan {
+    pub cores: Cores,
+    pub pin: bool,
+    pub beats: u32,
+    pub words1: u32,
+    pub words2: u32,
+    pub words3: u32,
 }

@@ -1,10 +1,10 @@
 // A beat of the chip.
-use super::beats::beat;
 use super::parts::chip_of;
 use super::parts::cores_of;
 use super::parts::counts_of;
 use super::parts::levels_of;
 use super::pending::with_pulse;
+use super::spans::span;
 use super::stops::stopped;
 use machine::Chip;
 use machine::Ticked;
@@ -30,19 +30,21 @@ pub fn tick(chip: Chip, pulse: bool) -> Ticked
     let mut counts1 = counts_of(chip, 0);
     let mut counts2 = counts_of(chip, 1);
     let mut counts3 = counts_of(chip, 2);
-    let t = beat(
+    let t = span(
         with_pulse(k, pulse),
+        chip.enabled,
         chip.d,
         &memory,
         &mut levels,
         &mut counts1,
         &mut counts2,
         &mut counts3,
+        1,
     );
     let after = t.cores;
     Ticked {
         chip: chip_of(chip, after, levels, counts1, counts2, counts3),
         pin: t.pin,
-        ended: [t.ended1, t.ended2, t.ended3],
+        ended: [t.words1 == 1, t.words2 == 1, t.words3 == 1],
     }
 }

@@ -24,16 +24,18 @@ pub struct Status {
     pub progress: Progress,
 }
 
-// An engine without its branch counts. What a beat changes most stands last, side by side.
+// An engine without its branch counts. The order is for speed: the compiler moves neighbours in one
+// piece, and a processor has to wait where it reads in one piece what it has just written in several.
+// So what a beat looks at by itself (pending, mask, status) parts the other fields.
 pub struct Core {
     pub start: Address,
     pub table: Pointers,
+    pub pending: u16,
+    pub mask: u16,
+    pub pc: Step,
     pub a: u8,
     pub b: u8,
     pub interrupt: bool,
     pub fault: bool,
-    pub mask: u16,
-    pub pending: u16,
-    pub pc: Step,
     pub status: Status,
 }

@@ -17,6 +17,7 @@ ghost use mathlib.Core.List.{List};
 ghost use mathlib.Core.Path.{_≡_};
 ghost use Prim.Native.Nat.{ℕ};
 ghost use Rattle.word.specs.Profile.{LP5523};
+ghost use Rattle.machine.specs.Parts.{withPc};
 ghost use Rattle.machine.specs.Turn.{acts, addressOf, returned, starts, beatOf};
 ghost use Rattle.cores.specs.Core.{engineOf};
 ghost use Rattle.engine.specs.Act.{actOf, rests};
@@ -42,14 +43,22 @@ fn starts(k: Core, c: u8, d: u8, memory: &[u16; 96], counts: &mut [u8; 96]) -> C
     begins(k, c, d, memory, counts, at, word::decode(code))
 }
 
-// The engine fetches its word: past the memory's last word PC becomes 0 first.
+// PC as the engine fetches: past the memory's last word it becomes 0 first.
+fn fetch_pc(k: Core) -> Step
+    ensures { λ r. ⌜ ((counts : List ℕ) → withPc r (engineOf k counts) ≡ returned LP5523 (engineOf k counts)) ⌝ }
+{
+    if address_of(k) >= WORDS {
+        return Step(0);
+    }
+    k.pc
+}
+
+// The engine fetches its word. One call serves both values of PC: with a call for each, the compiler
+// would keep the core in memory.
 fn fetch(k: Core, c: u8, d: u8, memory: &[u16; 96], counts: &mut [u8; 96]) -> CoreAct
     ensures { λ r. ⌜ actOf r (now (counts .exit)) ≡ starts LP5523 c d (now (memory .entry)) (returned LP5523 (engineOf k (now (counts .entry)))) ⌝ }
 {
-    if address_of(k) >= WORDS {
-        return starts(with_pc(k, Step(0)), c, d, memory, counts);
-    }
-    starts(k, c, d, memory, counts)
+    starts(with_pc(k, fetch_pc(k)), c, d, memory, counts)
 }
 
 // A beat of an engine that acts, by its word in progress.

@@ -1,5 +1,5 @@
 -- A run is its beats.
-use Prim.Native.Nat.{ℕ, zero, suc, _+_, _-_, _≤_, _<_}
+use Prim.Native.Nat.{ℕ, zero, suc, _+_, _≤_, _<_}
 use mathlib.Core.Bool.{Bool, true, false, cond}
 use mathlib.Core.List.{List, [], _∷_}
 use mathlib.Core.Path.{_≡_, refl, sym, _∙_, ap, subst}
@@ -116,35 +116,3 @@ run-is-beats P n m h =
           rw e at (let v : getD (runOf P n m .words) i 0 ≡ finishedIn P i (w .done) m = omega arith in v);
       fewer = λ i. let g = w .fewer i in let z = all-alike {A = ℕ} 0 (enginesOf P) i in omega arith;
     }
-
--- a run under way: what is left to do from r on gives the whole run's answer
-pub record Running (P : Profile) (n : ℕ) (m : Chip) (r : Ran) : Type 0 where
-  pub upto : r .beats ≤ n
-  pub same : beatsMore P (n - r .beats) r ≡ runOf P n m
-
-more-quiet : (P : Profile) (n : ℕ) (r : Ran) → quiet (r .chip) ≡ true → beatsMore P n r ≡ r
-unfolding beatsMore
-more-quiet P zero r q = refl
-more-quiet P (suc n) r q = ap (λ (b : Bool). cond b r (beatsMore P n (oneMore P r))) q
-
-more-busy : (P : Profile) (n : ℕ) (r : Ran) → quiet (r .chip) ≡ false → beatsMore P (suc n) r ≡ beatsMore P n (oneMore P r)
-unfolding beatsMore
-more-busy P n r q = ap (λ (b : Bool). cond b r (beatsMore P n (oneMore P r))) q
-
-pub running-from : (P : Profile) (n : ℕ) (m : Chip) → n ≤ mostBeats → Running P n m (beginning P Success m)
-running-from P n m h =
-    let e : n - 0 ≡ n = omega arith in
-    record { upto = omega arith; same = ap (λ (k : ℕ). beatsMore P k (beginning P Success m)) e ∙ sym (run-goes P n m h) }
-
-module _ (P : Profile) (n : ℕ) (m : Chip) (r : Ran) (R : Running P n m r) where
-  pub running-on : r .beats < n → quiet (r .chip) ≡ false → Running P n m (oneMore P r)
-  running-on l q =
-      let e : n - r .beats ≡ suc (n - (r .beats + 1)) = omega arith in
-      record { upto = omega arith; same = sym (ap (λ (k : ℕ). beatsMore P k r) e ∙ more-busy P (n - (r .beats + 1)) r q) ∙ R .same }
-
-  pub running-quiet : quiet (r .chip) ≡ true → r ≡ runOf P n m
-  running-quiet q = sym (more-quiet P (n - r .beats) r q) ∙ R .same
-
-  pub running-done : n ≤ r .beats → r ≡ runOf P n m
-  unfolding beatsMore
-  running-done l = let e : 0 ≡ n - r .beats = omega arith in ap (λ (k : ℕ). beatsMore P k r) e ∙ R .same

@@ -1,5 +1,6 @@
 -- `chip::ticks::tick` meets its contract.
 use mathlib.Core.Path.{refl, sym}
+use native.Mathlib.Omega.{arith}
 use borrow.Author.Needs.{needs}
 use Rattle.word.specs.Profile.{LP5523}
 use Rattle.machine.proofs.Theorems.{stopped-beat}
@@ -16,18 +17,19 @@ returns c =
 
 returns-2 : tie.Need-returns-2
 returns-2 c =
-    let c2 = c .before .before in let c8 = c2 .before .before .before .before .before .before in let c9 = c8 .before in
-    let c10 = c9 .before in let c11 = c10 .before in let c12 = c11 .before in let c15 = c12 .before .before .before in
-    let c16 = c15 .before in let c17 = c16 .before in let a = c17 .before .args in
+    let c3 = c .before .before .before in let c5 = c3 .before .before in let c11 = c5 .before .before .before .before .before .before in
+    let c12 = c11 .before in let c13 = c12 .before in let c14 = c13 .before in let c15 = c14 .before in let c18 = c15 .before .before .before in
+    let c19 = c18 .before in let c20 = c19 .before in let a = c20 .before .args in
     let m = a .chip in
-    let beat = c2 .beat in
-    tick-by m (a .pulse) _ _ (beat .result) _ (lent (beat .last .1 .1 .1 .0) (beat .last .1 .1 .1 .1 .0) (beat .last .1 .1 .1 .1 .1 .0) (beat .last .1 .1 .1 .1 .1 .1 .0)) _
-    (c17 .cores-of .ensures)
-    (stopped-by m _ _ _ (c17 .cores-of .ensures) (c16 .stopped .ensures (fixedOf m) (lentOf m) refl) (c15 .if1 .left))
-    (lent-of m (c12 .levels-of .ensures) (c11 .counts-of .ensures) (c10 .counts-of2 .ensures) (c9 .counts-of3 .ensures))
-    (c8 .with-pulse .ensures)
-    (beat .ensures (fixedOf m) refl refl)
-    (c .chip-of .ensures)
+    let z = c5 .span .last .1 .1 .1 .1 in
+    tick-by m _ (c5 .span .result) _ (lent (z .0) (z .1 .0) (z .1 .1 .0) (z .1 .1 .1 .0)) _
+    (c20 .cores-of .ensures)
+    (lent-of m (c15 .levels-of .ensures) (c14 .counts-of .ensures) (c13 .counts-of2 .ensures) (c12 .counts-of3 .ensures))
+    (c3 .chip-of .ensures)
+    _ (a .pulse)
+    (stopped-by m _ _ _ (c20 .cores-of .ensures) (c19 .stopped .ensures (fixedOf m) (lentOf m) refl) (c18 .if1 .left))
+    (c11 .with-pulse .ensures)
+    (c5 .span .ensures (fixedOf m) refl refl refl)
 
 pub tick-spec : {M : Type 1} → statement M
 tick-spec =
@@ -41,6 +43,6 @@ tick-spec =
     (search needs)
     (search needs)
     (search needs)
-    (search needs)
+    (λ c κs. omega arith)
     (search needs)
     returns-2)
