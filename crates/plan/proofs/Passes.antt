@@ -16,7 +16,7 @@ use Rattle.plan.specs.declared.Verdict.the-variants.{Accept, WrongLength
 use Rattle.plan.specs.Ranges.{planAt, firstOf, upward, codeAddresses, tableAddresses}
 use Rattle.plan.specs.Conditions.{wordAt}
 use Rattle.plan.specs.Tests.{holds, inOrder, opensTable}
-use Rattle.plan.specs.Check.{engineNumbers, joined, ofWord, ofRow, ofEngine, firstFailing, checkOf}
+use Rattle.plan.specs.Check.{engineNumbers, joined, ofWord, ofRow, ofEngine, firstFailing, checkOf, checkRangesOf}
 use Rattle.plan.specs.Passes.{isAccept, orElse, scan, orderVerdict, apartVerdict, wordVerdict, wordsVerdict, rowVerdict, rowsVerdict, codeVerdict, tableVerdict, engineVerdict, enginesVerdict}
 use Rattle.plan.proofs.Laws.{by-test, is-accept, or-accept, or-refused}
 
@@ -118,6 +118,11 @@ module _ (p : Plan) (image : List ℕ) where
   pub right-length : {v : Verdict} → length image ≡ 96
       → v ≡ orElse (orderVerdict LP5523 p) (orElse (apartVerdict LP5523 p) (enginesVerdict LP5523 p image)) → v ≡ checkOf LP5523 p image
   right-length h e = e ∙ sym (whole ∙ simp (eq-eqb (length image) 96 h))
+
+-- 11 and 12 by themselves
+pub ranges : (p : Plan) {v : Verdict} → v ≡ orElse (orderVerdict LP5523 p) (apartVerdict LP5523 p) → v ≡ checkRangesOf LP5523 p
+unfolding checkRangesOf firstFailing orderVerdict apartVerdict
+ranges p e = e ∙ sym (append (holds LP5523 p []) refl (map OutOfOrder (engineNumbers LP5523)) (map CodeMeetsTable (engineNumbers LP5523)))
 
 -- where 11 has passed, each engine is in order
 order-at : (a b c : Bool) (i j k : ℕ) → isAccept (cond a (cond b (cond c Accept (OutOfOrder k)) (OutOfOrder j)) (OutOfOrder i)) ≡ true

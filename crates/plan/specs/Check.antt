@@ -48,3 +48,7 @@ firstFailing f (v ∷ vs) = cond (f v) (firstFailing f vs) v
 
 unfoldable pub checkOf : Profile → Plan → List ℕ → Verdict
 checkOf P p image = firstFailing (holds P p image) (verdictsOf P p)
+
+-- 11 and 12 by themselves: what can be said against a plan whatever its image is, in the same order.
+unfoldable pub checkRangesOf : Profile → Plan → Verdict
+checkRangesOf P p = firstFailing (holds P p []) (map OutOfOrder (engineNumbers P) ++ map CodeMeetsTable (engineNumbers P))

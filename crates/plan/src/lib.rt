@@ -5,12 +5,14 @@ mod apart;
 mod checker;
 mod classes;
 mod order;
+mod ranges;
 mod successors;
 mod table;
 mod table_use;
 mod words;
 
 pub use checker::check;
+pub use ranges::check_ranges;
 use word::Address;
 
 // What one engine has: nothing; the code addresses first to last; and perhaps the rows of a mapping

@@ -1,0 +1,5 @@
+pub mod Form
+pub mod Grammar
+pub mod Conditions
+pub mod Theorems
+pub mod Tables

@@ -1,0 +1,47 @@
+// The lines of a sheet, read and written by tables. The grammar is document 01's: specs/Grammar.antt.
+mod kinds;
+mod names;
+mod pairs;
+mod reading;
+mod sequence;
+mod shapes;
+mod words;
+mod writing;
+
+pub use reading::read_line;
+pub use writing::put_line;
+
+// The forms of a sheet's lines.
+pub enum Form {
+    Op,
+    Engine1,
+    Engine2,
+    Engine3,
+    Row,
+    Spare,
+}
+
+// A value: a number, or the place of a word among those allowed; or why there is none.
+pub enum Value {
+    Number(u16),
+    Malformed,
+    Outside,
+}
+
+// The values of a line's pairs in their order, 0 past the last. The first value of an op line is the
+// operation's place in document 01's table; a word stands for its place among those allowed.
+pub struct Values {
+    pub a: u16,
+    pub b: u16,
+    pub c: u16,
+    pub d: u16,
+    pub e: u16,
+    pub f: u16,
+    pub g: u16,
+}
+
+// What reading a line answers: its values, or the number of the refusal.
+pub enum LineRead {
+    Read(Values),
+    Refused(u16),
+}

@@ -1,0 +1,5 @@
+pub mod Bytes
+pub mod Number
+pub mod Put
+pub mod Theorems
+pub mod Digits
