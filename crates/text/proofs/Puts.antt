@@ -6,8 +6,8 @@ use native.Mathlib.Omega.{arith}
 use native.Mathlib.Nat.{add-zero}
 use borrow.Author.Tests.{leb-true, leb-false}
 use lib.Dec.{leb}
-use lib.ListN.{length, set, length-append}
-use lib.Seq.{sets, length-sets, set-out}
+use lib.ListN.{length, set, drop, length-append}
+use lib.Seq.{sets, length-sets, sets-eq, set-out}
 use Rattle.text.specs.Put.{lastPlace, Put}
 use Rattle.text.proofs.Turns.{by-test}
 
@@ -55,6 +55,12 @@ put-is {a} {b} {s} {t} {at} {n} e p = subst (λ (x : List ℕ). Put a b x at n) 
 
 pub put-length : {a b s : List ℕ} {at m : ℕ} → Put a b s at m → length b ≡ length a
 put-length {a} {b} {s} {at} {m} p = ap length (p .bytes) ∙ length-sets a at s
+
+-- a text for which there is room, written from the start, stands before what was after it
+pub put-front : {a b s : List ℕ} {n : ℕ} → Put a b s 0 n → length s ≤ length a → b ≡ s ++ drop (length s) a
+put-front {a} {b} {s} p h =
+    let z : 0 + length s ≡ length s = omega arith in
+    p .bytes ∙ sets-eq s a 0 (omega arith) ∙ ap (λ (k : ℕ). s ++ drop k a) z
 
 -- ---- a text that is written part by part
 

@@ -1,0 +1,9 @@
+pub mod Fits
+pub mod Written
+pub mod Filled
+pub mod Codes
+pub mod Numbers
+pub mod Refusals
+pub mod Answered
+pub mod Room
+pub mod Theorems
