@@ -1,11 +1,13 @@
 -- Laws that the functions' proofs share.
 use Prim.Native.Nat.{ℕ, suc, _+_, _-_, _≤_, _<_}
 use mathlib.Core.Bool.{Bool, true, false, not, cond, _&&_, false≢true}
-use mathlib.Core.List.{List}
+use mathlib.Core.List.{List, [], _∷_}
 use mathlib.Core.Path.{_≡_, refl, sym, ap, _∙_}
 use native.Mathlib.Omega.{arith}
 use borrow.Author.Tests.{ltb-true, not-true, not-false}
 use lib.Dec.{leb, ltb}
+use types.Run.{OneOf, miss}
+use denote.Enum.Declared.{tagOf}
 use Rattle.word.specs.Profile.{Profile, LP5523}
 use Rattle.word.specs.Decode.{addressAt}
 use Rattle.word.specs.Classes.{flowOf, tableUseOf}
@@ -18,6 +20,7 @@ use Rattle.plan.specs.declared.Verdict.{Verdict}
 use Rattle.plan.specs.declared.Verdict.the-variants.{Accept, WrongLength, OutOfOrder, CodeMeetsTable, UndefinedWord, SuccessorOutside, TableMisused, TableNotOpened, ReservedRowBit}
 use Rattle.plan.specs.Tests.{ordered, inOrder, isFault, successorsInside, usesOwnTable, opensTable}
 use Rattle.plan.specs.Passes.{isAccept, orElse, scan, wordVerdict, wordsVerdict, rowsVerdict, codeVerdict, tableVerdict}
+use Rattle.plan.proofs.Verdict.{the-type}
 
 -- what an arm of a match gives, of the value that is known there
 pub via : {A B : Type 0} (f : A → B) {x y : A} {r : B} → r ≡ f y → x ≡ y → r ≡ f x
@@ -72,6 +75,18 @@ is-accept (SuccessorOutside i a) e = cc
 is-accept (TableMisused i a) e = cc
 is-accept (TableNotOpened i a) e = cc
 is-accept (ReservedRowBit i a) e = cc
+
+-- a verdict other than Accept
+pub not-accept : (v : Verdict) → OneOf (1 ∷ 2 ∷ 3 ∷ 4 ∷ 5 ∷ 6 ∷ 7 ∷ 8 ∷ []) (tagOf the-type v) → isAccept v ≡ false
+not-accept Accept h = absurd (miss (1 ∷ 2 ∷ 3 ∷ 4 ∷ 5 ∷ 6 ∷ 7 ∷ 8 ∷ []) 0 tt h)
+not-accept WrongLength h = refl
+not-accept (OutOfOrder i) h = refl
+not-accept (CodeMeetsTable i) h = refl
+not-accept (UndefinedWord i a) h = refl
+not-accept (SuccessorOutside i a) h = refl
+not-accept (TableMisused i a) h = refl
+not-accept (TableNotOpened i a) h = refl
+not-accept (ReservedRowBit i a) h = refl
 
 -- where 11 has passed, a range ends in the memory
 ordered-within : (f l : Address) → ordered LP5523 f l ≡ true → l .0 < 96

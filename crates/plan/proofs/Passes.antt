@@ -33,13 +33,23 @@ module _ (f : Verdict → Bool) (passes : f Accept ≡ true) where
   refuses : (v : Verdict) → f v ≡ false → isAccept v ≡ false
   refuses v e = by-test (isAccept v) (λ h. h ∙ sym (ap f (is-accept v h) ∙ passes) ∙ e) (λ h. h)
 
-  append : (xs ys : List Verdict) → firstFailing f (xs ++ ys) ≡ orElse (firstFailing f xs) (firstFailing f ys)
+  pub append : (xs ys : List Verdict) → firstFailing f (xs ++ ys) ≡ orElse (firstFailing f xs) (firstFailing f ys)
   unfolding firstFailing
   append [] ys = sym (or-accept Accept (firstFailing f ys) refl)
   append (v ∷ xs) ys = step (f v) v (firstFailing f xs) (firstFailing f (xs ++ ys)) (firstFailing f ys) (refuses v) (append xs ys)
 
+  -- and of three
+  pub three : (xs ys zs : List Verdict) {u v w : Verdict} → firstFailing f xs ≡ u → firstFailing f ys ≡ v → firstFailing f zs ≡ w
+      → firstFailing f (xs ++ (ys ++ (zs ++ []))) ≡ orElse u (orElse v w)
+  unfolding firstFailing
+  three xs ys zs {u} {v} {w} d e g =
+      append xs (ys ++ (zs ++ []))
+      ∙ ap (λ (x : Verdict). orElse x (firstFailing f (ys ++ (zs ++ [])))) d
+      ∙ ap (orElse u) (append ys (zs ++ []) ∙ ap (λ (x : Verdict). orElse x (firstFailing f (zs ++ []))) e)
+      ∙ ap (λ (x : Verdict). orElse u (orElse v x)) (append zs [] ∙ or-none (firstFailing f zs) ∙ g)
+
 -- what is said at each address, upward
-scanned : (P : Profile) (p : Plan) (image : List ℕ) (g : ℕ → List Verdict) (f : ℕ → Verdict) → ((a : ℕ) → firstFailing (holds P p image) (g a) ≡ f a) →
+pub scanned : (P : Profile) (p : Plan) (image : List ℕ) (g : ℕ → List Verdict) (f : ℕ → Verdict) → ((a : ℕ) → firstFailing (holds P p image) (g a) ≡ f a) →
     (a n : ℕ) → firstFailing (holds P p image) (joined g (upward a n)) ≡ scan f a n
 unfolding firstFailing scan
 scanned P p image g f h a zero = refl
@@ -88,18 +98,12 @@ module _ (p : Plan) (image : List ℕ) where
   abbrev listOf : ℕ → List Verdict
   listOf i = ofEngine (planAt LP5523 p i) i
 
-  abbrev verdictOf : ℕ → Verdict
-  verdictOf i = engineVerdict LP5523 (planAt LP5523 p i) i image
-
   engines : first (listOf 1 ++ (listOf 2 ++ (listOf 3 ++ []))) ≡ enginesVerdict LP5523 p image
-  unfolding firstFailing enginesVerdict
+  unfolding enginesVerdict
   engines =
-      append (holds LP5523 p image) refl (listOf 1) (listOf 2 ++ (listOf 3 ++ []))
-      ∙ ap (λ (v : Verdict). orElse v (first (listOf 2 ++ (listOf 3 ++ [])))) (engine LP5523 p image 1 (planAt LP5523 p 1) refl)
-      ∙ ap (orElse (verdictOf 1)) (append (holds LP5523 p image) refl (listOf 2) (listOf 3 ++ []))
-      ∙ ap (λ (v : Verdict). orElse (verdictOf 1) (orElse v (first (listOf 3 ++ [])))) (engine LP5523 p image 2 (planAt LP5523 p 2) refl)
-      ∙ ap (λ (v : Verdict). orElse (verdictOf 1) (orElse (verdictOf 2) v)) (append (holds LP5523 p image) refl (listOf 3) [] ∙ or-none (first (listOf 3)))
-      ∙ ap (λ (v : Verdict). orElse (verdictOf 1) (orElse (verdictOf 2) v)) (engine LP5523 p image 3 (planAt LP5523 p 3) refl)
+      three (holds LP5523 p image) refl (listOf 1) (listOf 2) (listOf 3) (engine LP5523 p image 1 (planAt LP5523 p 1) refl)
+      (engine LP5523 p image 2 (planAt LP5523 p 2) refl)
+      (engine LP5523 p image 3 (planAt LP5523 p 3) refl)
 
   whole : checkOf LP5523 p image
       ≡ cond (eqb (length image) 96) (orElse (orderVerdict LP5523 p) (orElse (apartVerdict LP5523 p) (enginesVerdict LP5523 p image))) WrongLength

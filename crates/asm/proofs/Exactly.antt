@@ -1,0 +1,141 @@
+-- Each refusal of a sheet is given exactly where its condition holds (specs/Conditions.antt): what reading comes to is known, and no two
+-- of its outcomes can hold together.
+use Prim.Native.Nat.{ℕ, _+_, _<_}
+use mathlib.Core.List.{List}
+use mathlib.Core.Logic.{_⊎_, inl, inr}
+use mathlib.Core.Path.{_≡_, sym, ap, ap₂, subst, _∙_}
+use native.Mathlib.Omega.{arith}
+use lib.ListN.{length}
+use lib.Dec.{ltb}
+use borrow.Author.Tests.{ltb-true, ltb-false}
+use Rattle.word.specs.Profile.{Profile}
+use Rattle.plan.proofs.Laws.{by-test}
+use Rattle.asm.specs.Reading.{Sheet, program, refused-at, readSheet}
+use Rattle.asm.specs.Conditions.{Line, linesOf, planSaid, numberAt, lineCount, GoodTo, FirstBad, Ordered, Apart, GoodLines, RefusesExactly}
+use Rattle.asm.proofs.Steps.{never}
+use Rattle.asm.proofs.Outcome.{Outcome, bad, miscounted, out-of-order, code-meets-table, is-read, sheet-outcome}
+
+-- A refusal's number and line; zeros for a program.
+abbrev numberIn : Sheet → ℕ
+numberIn (program p ws) = 0
+numberIn (refused-at n l) = n
+
+abbrev lineIn : Sheet → ℕ
+lineIn (program p ws) = 0
+lineIn (refused-at n l) = l
+
+-- two answers with different numbers, or in different lines
+other-number : {r s t : Sheet} → r ≡ s → r ≡ t → (numberIn s ≡ numberIn t → ⊥) → ⊥
+other-number e f d = d (ap numberIn (sym e ∙ f))
+
+other-line : {r s t : Sheet} → r ≡ s → r ≡ t → (lineIn s ≡ lineIn t → ⊥) → ⊥
+other-line e f d = d (ap lineIn (sym e ∙ f))
+
+module _ (P : Profile) (ls : List Line) where
+  -- a bad line is the first only where no other is, and not where all are good
+  none-earlier : (k n j m : ℕ) → FirstBad P ls k n → FirstBad P ls j m → k < j → ⊥
+  none-earlier k n j m f g l = f .refusal (sym (f .bad) ∙ g .before k l (f .there))
+
+  spoiled : (k n : ℕ) → FirstBad P ls k n → GoodTo P ls (lineCount P) → ⊥
+  spoiled k n f g = f .refusal (sym (f .bad) ∙ g k (f .among) (f .there))
+
+  same-line : (k n j m : ℕ) → FirstBad P ls k n → FirstBad P ls j m → k ≡ j
+  same-line k n j m f g =
+      by-test (ltb k j)
+      (λ h. absurd (none-earlier k n j m f g (ltb-true k j h)))
+      (λ h.
+      by-test (ltb j k)
+      (λ i. absurd (none-earlier j m k n g f (ltb-true j k i)))
+      (λ i. omega (arith, ltb-false k j h, ltb-false j k i)))
+
+  module _ (r : Sheet) where
+    -- a line's refusal
+    line-told : (k n : ℕ) → Outcome P ls r → r ≡ refused-at n (k + 1) → FirstBad P ls k n
+    line-told k n (bad j m f e) h =
+        let z : j ≡ k = omega (arith, ap lineIn (sym e ∙ h)) in
+        subst (λ (i : ℕ). FirstBad P ls i n) z (subst (FirstBad P ls j) (ap numberIn (sym e ∙ h)) f)
+    line-told k n (miscounted g d e) h = absurd (other-line e h (λ z. omega arith))
+    line-told k n (out-of-order g o e) h = absurd (other-line e h (λ z. omega arith))
+    line-told k n (code-meets-table g o m e) h = absurd (other-line e h (λ z. omega arith))
+    line-told k n (is-read g o m p ws e) h = absurd (other-line e h (λ z. omega arith))
+
+    line-given : (k n : ℕ) → Outcome P ls r → FirstBad P ls k n → r ≡ refused-at n (k + 1)
+    line-given k n (bad j m f e) h =
+        let z = same-line j m k n f h in
+        e ∙ ap₂ (λ (x i : ℕ). refused-at x (i + 1)) (sym (f .bad) ∙ ap (numberAt P ls) z ∙ h .bad) z
+    line-given k n (miscounted g d e) h = absurd (spoiled k n h g)
+    line-given k n (out-of-order g o e) h = absurd (spoiled k n h (g .0))
+    line-given k n (code-meets-table g o m e) h = absurd (spoiled k n h (g .0))
+    line-given k n (is-read g o m p ws e) h = absurd (spoiled k n h (g .0))
+
+    -- 23
+    count-told : Outcome P ls r → r ≡ refused-at 23 0 → GoodTo P ls (lineCount P) × (length ls ≡ lineCount P → ⊥)
+    count-told (bad j m f e) h = absurd (other-line e h (λ z. omega arith))
+    count-told (miscounted g d e) h = (g, d)
+    count-told (out-of-order g o e) h = absurd (other-number e h (λ z. omega arith))
+    count-told (code-meets-table g o m e) h = absurd (other-number e h (λ z. omega arith))
+    count-told (is-read g o m p ws e) h = absurd (other-number e h (λ z. omega arith))
+
+    count-given : Outcome P ls r → GoodTo P ls (lineCount P) × (length ls ≡ lineCount P → ⊥) → r ≡ refused-at 23 0
+    count-given (bad j m f e) h = absurd (spoiled j m f (h .0))
+    count-given (miscounted g d e) h = e
+    count-given (out-of-order g o e) h = absurd (h .1 (g .1))
+    count-given (code-meets-table g o m e) h = absurd (h .1 (g .1))
+    count-given (is-read g o m p ws e) h = absurd (h .1 (g .1))
+
+    -- 11
+    abbrev Disorder : Type 0
+    Disorder = GoodLines P ls × (Ordered P (planSaid P ls) → ⊥)
+
+    order-told : Outcome P ls r → r ≡ refused-at 11 0 → Disorder
+    order-told (bad j m f e) h = absurd (other-line e h (λ z. omega arith))
+    order-told (miscounted g d e) h = absurd (other-number e h (λ z. omega arith))
+    order-told (out-of-order g o e) h = (g, o)
+    order-told (code-meets-table g o m e) h = absurd (other-number e h (λ z. omega arith))
+    order-told (is-read g o m p ws e) h = absurd (other-number e h (λ z. omega arith))
+
+    order-given : Outcome P ls r → Disorder → r ≡ refused-at 11 0
+    order-given (bad j m f e) h = absurd (spoiled j m f (h .0 .0))
+    order-given (miscounted g d e) h = absurd (d (h .0 .1))
+    order-given (out-of-order g o e) h = e
+    order-given (code-meets-table g o m e) h = absurd (h .1 o)
+    order-given (is-read g o m p ws e) h = absurd (h .1 o)
+
+    -- 12
+    abbrev Meeting : Type 0
+    Meeting = GoodLines P ls × Ordered P (planSaid P ls) × (Apart P (planSaid P ls) → ⊥)
+
+    meeting-told : Outcome P ls r → r ≡ refused-at 12 0 → Meeting
+    meeting-told (bad j m f e) h = absurd (other-line e h (λ z. omega arith))
+    meeting-told (miscounted g d e) h = absurd (other-number e h (λ z. omega arith))
+    meeting-told (out-of-order g o e) h = absurd (other-number e h (λ z. omega arith))
+    meeting-told (code-meets-table g o m e) h = (g, o, m)
+    meeting-told (is-read g o m p ws e) h = absurd (other-number e h (λ z. omega arith))
+
+    meeting-given : Outcome P ls r → Meeting → r ≡ refused-at 12 0
+    meeting-given (bad j m f e) h = absurd (spoiled j m f (h .0 .0))
+    meeting-given (miscounted g d e) h = absurd (d (h .0 .1))
+    meeting-given (out-of-order g o e) h = absurd (o (h .1))
+    meeting-given (code-meets-table g o m e) h = e
+    meeting-given (is-read g o m p ws e) h = absurd (h .2 m)
+
+    -- and no other number stands in no line
+    others-told : (n : ℕ) → Outcome P ls r → r ≡ refused-at n 0 → (n ≡ 23) ⊎ ((n ≡ 11) ⊎ (n ≡ 12))
+    others-told n (bad j m f e) h = absurd (other-line e h (λ z. omega arith))
+    others-told n (miscounted g d e) h = inl (ap numberIn (sym h ∙ e))
+    others-told n (out-of-order g o e) h = inr (inl (ap numberIn (sym h ∙ e)))
+    others-told n (code-meets-table g o m e) h = inr (inr (ap numberIn (sym h ∙ e)))
+    others-told n (is-read g o m p ws e) h = absurd (never (sym h ∙ e))
+
+pub refuses-exactly : RefusesExactly
+refuses-exactly P text =
+    let ls = linesOf text in
+    let r = readSheet P text in
+    let o = sheet-outcome P text in
+    record {
+      line = λ k n. (line-told P ls r k n o, line-given P ls r k n o);
+      is23 = (count-told P ls r o, count-given P ls r o);
+      is11 = (order-told P ls r o, order-given P ls r o);
+      is12 = (meeting-told P ls r o, meeting-given P ls r o);
+      others = λ n. others-told P ls r n o;
+    }

@@ -1,0 +1,139 @@
+-- The theorems of specs/Theorems.antt, under its names.
+use Prim.Native.Nat.{ℕ, _≤_, _<_}
+use mathlib.Core.Bool.{Bool, true, false, cond}
+use mathlib.Core.List.{List, [], _∷_, _++_}
+use mathlib.Core.Path.{_≡_, refl, ap, subst, _∙_}
+use native.Mathlib.Omega.{arith}
+use borrow.Author.Tests.{eq-eqb, le-leb}
+use lib.Dec.{eqb, leb}
+use lib.ListN.{length, getD}
+use Rattle.text.specs.Bytes.{lineFeed, split}
+use Rattle.text.proofs.Theorems.{joins-split}
+use Rattle.word.specs.Profile.{Profile, LP5523, wordsOf}
+use Rattle.plan.specs.declared.EnginePlan.{EnginePlan}
+use Rattle.plan.specs.declared.EnginePlan.the-variants.{Unused, Code, CodeAndTable}
+use Rattle.plan.specs.declared.Plan.{Plan}
+use Rattle.plan.specs.declared.Verdict.{Verdict}
+use Rattle.plan.specs.declared.Verdict.the-variants.{Accept}
+use Rattle.plan.specs.Ranges.{enginePlans, planAt, InCode}
+use Rattle.plan.specs.Conditions.{InOrder}
+use Rattle.plan.specs.Passes.{isAccept}
+use Rattle.plan.proofs.Laws.{is-accept}
+use Rattle.op_lines.proofs.Theorems.{line-again, code-again, reads-defined}
+use Rattle.asm.specs.declared.Disassembled.{Disassembled}
+use Rattle.asm.specs.declared.Disassembled.the-variants.{Length, Refused, TooShort}
+use Rattle.asm.specs.PlanLines.{engineForms, planOf}
+use Rattle.asm.specs.Reading.{program, refused-at, readSheet, assembleOf}
+use Rattle.asm.specs.Writing.{planLines, wordLines, ended, sheetOf, writableOf, disassembleOf}
+use Rattle.asm.specs.Theorems.{SheetAgain, ProgramAgain, Sound, ReadsSound}
+use Rattle.asm.proofs.Each.{Each, each-at, each-of}
+use Rattle.asm.proofs.Codes.{code-form}
+use Rattle.asm.proofs.Writable.{ranges-exactly, writable-exactly}
+use Rattle.asm.proofs.PlanLaws.{engine-forms}
+use Rattle.asm.proofs.WordLaws.{word-line-back}
+use Rattle.asm.proofs.Steps.{never}
+use Rattle.asm.proofs.Again.{DefinedAt, SheetRead, plans-read}
+use Rattle.asm.proofs.Back.{BackAt, Ready, plans-back}
+
+-- a code address in order is one of the memory
+code-below : (P : Profile) (q : EnginePlan) (a : ℕ) → InOrder P q → InCode q a → a < wordsOf P
+code-below P Unused a o c = absurd c
+code-below P (Code f l) a o c = omega (arith, o .1, c .1)
+code-below P (CodeAndTable f l t b) a o c = omega (arith, o .0 .1, c .1)
+
+-- as many plans as forms make a plan, and a plan has as many
+plans-of : (P : Profile) (qs : List EnginePlan) → length qs ≡ length (engineForms P) → enginePlans P (planOf P qs) ≡ qs
+plans-of LP5523 [] e = absurd (omega arith)
+plans-of LP5523 (q ∷ []) e = absurd (omega arith)
+plans-of LP5523 (q ∷ r ∷ []) e = absurd (omega arith)
+plans-of LP5523 (q ∷ r ∷ s ∷ []) e = refl
+plans-of LP5523 (q ∷ r ∷ s ∷ t ∷ ts) e = absurd (omega arith)
+
+plan-of : (P : Profile) (p : Plan) → planOf P (enginePlans P p) ≡ p
+plan-of LP5523 p = refl
+
+ready : (P : Profile) (p : Plan) → ((i : ℕ) → InOrder P (planAt P p i)) → Ready P (engineForms P) (enginePlans P p)
+ready LP5523 p o = (o 1, (o 2, (o 3, tt)))
+
+-- ---- the answers
+
+assembled : (P : Profile) (words : ℕ) (text image : List ℕ) (p : Plan) → assembleOf P words text ≡ program p image
+    → readSheet P text ≡ program p image
+unfolding assembleOf
+assembled P words text image p e = go (eqb words (wordsOf P)) e
+  where
+    go : (b : Bool) → cond b (readSheet P text) (refused-at 9 0) ≡ program p image → readSheet P text ≡ program p image
+    go true e = e
+    go false e = absurd (never e)
+
+disassembled : (P : Profile) (image : List ℕ) (p : Plan) (room n : ℕ) → disassembleOf P p image room ≡ Length n → writableOf P p image ≡ Accept
+unfolding disassembleOf
+disassembled P image p room n e = is-accept (writableOf P p image) (go (isAccept (writableOf P p image)) e)
+  where
+    refused-length : {v : Verdict} → Refused v ≡ Length n → ⊥
+    refused-length e =
+        let z : _≡_ {A = ℕ} 0 1 = cc in
+        omega arith
+
+    fitting : Disassembled
+    fitting = cond (leb (length (sheetOf P p image)) room) (Length (length (sheetOf P p image))) TooShort
+
+    go : (b : Bool) → cond b fitting (Refused (writableOf P p image)) ≡ Length n → b ≡ true
+    go true e = refl
+    go false e = absurd (refused-length e)
+
+written : (P : Profile) (image : List ℕ) (p : Plan) (room : ℕ) → writableOf P p image ≡ Accept → length (sheetOf P p image) ≤ room
+    → disassembleOf P p image room ≡ Length (length (sheetOf P p image))
+unfolding disassembleOf
+written P image p room e h = rw (e, le-leb (length (sheetOf P p image)) room h)
+
+-- what a sheet that is read tells
+sheet-read : (P : Profile) (text image : List ℕ) (p : Plan) (words : ℕ) → assembleOf P words text ≡ program p image
+    → SheetRead P (engineForms P) 1 [] (split lineFeed text) p image
+unfolding readSheet
+sheet-read P text image p words e =
+    plans-read line-again reads-defined P p image (engineForms P) 1 1 [] (split lineFeed text) (engine-forms P) (assembled P words text image p e)
+
+pub reads-sound : ReadsSound
+reads-sound P text image p words e =
+    let r = sheet-read P text image p words e in
+    let o = ranges-exactly P p .0 (r .ranges) in
+    record {
+      words = r .count;
+      ordered = o .0;
+      apart = o .1;
+      defined = λ i a c.
+          let l = code-below P (planAt P p i) a (o .0 i) c in
+          each-at (DefinedAt P p) image 0 a a (omega arith) (r .codes) (omega (arith, r .count)) (code-form P p a i c);
+    }
+
+sheet-same : (P : Profile) (text image : List ℕ) (p : Plan) (words : ℕ) → assembleOf P words text ≡ program p image → sheetOf P p image ≡ text
+unfolding sheetOf
+sheet-same P text image p words e =
+    let r = sheet-read P text image p words e in
+    let plans : enginePlans P p ≡ r .rest = ap (enginePlans P) (r .plan) ∙ plans-of P (r .rest) (r .forms) in
+    ap (λ (qs : List EnginePlan). ended (planLines P 1 (engineForms P) qs ++ wordLines P p 0 image)) plans
+    ∙ r .text
+    ∙ joins-split lineFeed text
+
+pub sheet-again : SheetAgain
+sheet-again P text image p words room e h =
+    let same = sheet-same P text image p words e in
+    let writable = writable-exactly P p image .1 (reads-sound P text image p words e) in
+    (same, subst (λ (t : List ℕ). length t ≤ room → disassembleOf P p image room ≡ Length (length t)) same (written P image p room writable) h)
+
+words-back : (P : Profile) (image : List ℕ) (p : Plan) → ((a : ℕ) → getD image a 0 ≤ 65535) → Sound P p image → Each (BackAt P p) 0 image
+words-back P image p small s =
+    each-of (BackAt P p) image 0 (λ k a z l. let e : k ≡ a = omega arith in subst (λ (b : ℕ). BackAt P p b (getD image k 0)) e (back k))
+  where
+    back : (k : ℕ) → BackAt P p k (getD image k 0)
+    back k = word-line-back P p k code-again (getD image k 0) (small k) (λ i. s .defined i k)
+
+pub program-again : ProgramAgain
+unfolding assembleOf readSheet sheetOf
+program-again P image p room n small e =
+    let s = writable-exactly P p image .0 (disassembled P image p room n e) in
+    let ranges = ranges-exactly P p .1 (s .ordered, s .apart) in
+    let back = words-back P image p small s in
+    rw (eq-eqb (wordsOf P) (wordsOf P) refl)
+    (plans-back P p ranges image (s .words) back (engineForms P) 1 1 [] (enginePlans P p) (engine-forms P) (ready P p (s .ordered)) (plan-of P p))

@@ -1,0 +1,114 @@
+-- The writer objects to nothing exactly where 9, 11, 12 and 13 are met, which is what is promised of a sheet that is read.
+use Prim.Native.Nat.{ℕ}
+use mathlib.Core.Bool.{true}
+use mathlib.Core.List.{List, [], _∷_, map, _++_}
+use mathlib.Core.Logic.{_↔_, Iff·trans}
+use mathlib.Core.Path.{_≡_, refl, sym, ap, subst}
+use Rattle.word.specs.Profile.{Profile}
+use Rattle.word.specs.Decode.{addressAt}
+use Rattle.plan.specs.declared.EnginePlan.{EnginePlan}
+use Rattle.plan.specs.declared.Plan.{Plan}
+use Rattle.plan.specs.declared.Verdict.{Verdict}
+use Rattle.plan.specs.declared.Verdict.the-variants.{Accept, OutOfOrder, CodeMeetsTable, UndefinedWord}
+use Rattle.plan.specs.Ranges.{planAt, InCode, codeAddresses}
+use Rattle.plan.specs.Conditions.{wordAt, InOrder, Apart, Defined, AllIn, Condition}
+use Rattle.plan.specs.Tests.{holds}
+use Rattle.plan.specs.Check.{engineNumbers, joined, firstFailing, checkRangesOf}
+use Rattle.plan.specs.Theorems.{AllOf}
+use Rattle.plan.proofs.First.{allHold, first-none, first-all}
+use Rattle.plan.proofs.Tests.{both, tests-exactly}
+use Rattle.plan.proofs.Lists.{all-map, all-given, engine-all, met-append, met-map, met-joined, over-code}
+use Rattle.asm.specs.Theorems.{Sound}
+use Rattle.asm.specs.Writing.{undefinedAt, objectionsTo, writableOf}
+
+-- a list of single verdicts, joined
+pub map-joined : (v : ℕ → Verdict) (xs : List ℕ) → map v xs ≡ joined (λ x. v x ∷ []) xs
+map-joined v [] = refl
+map-joined v (x ∷ xs) = ap (λ (vs : List Verdict). v x ∷ vs) (map-joined v xs)
+
+module _ (P : Profile) (p : Plan) (image : List ℕ) where
+  abbrev Met : List Verdict → Type 0
+  Met vs = AllOf (Condition P p image) vs
+
+  pub all-met : (vs : List Verdict) → (allHold (holds P p image) vs ≡ true) ↔ Met vs
+  all-met [] = (λ e. tt, λ h. refl)
+  all-met (v ∷ vs) = both (holds P p image v) (allHold (holds P p image) vs) (tests-exactly P p image v) (all-met vs)
+
+  -- the first failing of a list is none exactly where all conditions are met
+  pub none-fails : (vs : List Verdict) → (firstFailing (holds P p image) vs ≡ Accept) ↔ Met vs
+  none-fails vs = Iff·trans (first-all (holds P p image) refl vs, first-none (holds P p image) vs) (all-met vs)
+
+  -- 11 and 12, of all engines
+  pub orders-met : Met (map OutOfOrder (engineNumbers P)) ↔ ((i : ℕ) → Condition P p image (OutOfOrder i))
+  orders-met = (
+    λ h. engine-all (InOrder P) tt P p (met-map (Condition P p image) OutOfOrder (engineNumbers P) .0 h),
+    λ h. met-map (Condition P p image) OutOfOrder (engineNumbers P) .1 (all-given h (engineNumbers P)),
+  )
+
+  pub meetings-met : Met (map CodeMeetsTable (engineNumbers P)) ↔ ((i : ℕ) → Condition P p image (CodeMeetsTable i))
+  meetings-met = (
+    λ h. engine-all (Apart P p) (λ i a c. absurd c) P p (met-map (Condition P p image) CodeMeetsTable (engineNumbers P) .0 h),
+    λ h. met-map (Condition P p image) CodeMeetsTable (engineNumbers P) .1 (all-given h (engineNumbers P)),
+  )
+
+  -- 13, of one engine and of all
+  abbrev AllDefined : EnginePlan → Type 0
+  AllDefined q = (a : ℕ) → InCode q a → Defined (wordAt P image a)
+
+  engine-defined : (i : ℕ) → Met (undefinedAt p P i) ↔ AllDefined (planAt P p i)
+  engine-defined i =
+      let v : ℕ → Verdict = λ a. UndefinedWord i (addressAt a) in
+      let e = map-joined v (codeAddresses (planAt P p i)) in
+      let o = over-code (Condition P p image) (λ a. v a ∷ []) (planAt P p i) in (
+        λ h a c. o .0 (subst Met e h) a c .0,
+        λ h. subst Met (sym e) (o .1 (λ a c. (h a c, tt))),
+      )
+
+  engines-defined : Met (joined (undefinedAt p P) (engineNumbers P)) ↔ ((i : ℕ) → AllDefined (planAt P p i))
+  engines-defined = (
+    λ h. engine-all AllDefined (λ a c. absurd c) P p (all-map (λ i. engine-defined i .0) (engineNumbers P) (each .0 h)),
+    λ h. each .1 (all-given (λ i. engine-defined i .1 (h i)) (engineNumbers P)),
+  )
+    where
+      each : Met (joined (undefinedAt p P) (engineNumbers P)) ↔ AllIn (λ i. Met (undefinedAt p P i)) (engineNumbers P)
+      each = met-joined (Condition P p image) (undefinedAt p P) (engineNumbers P)
+
+  abbrev orders : List Verdict
+  orders = map OutOfOrder (engineNumbers P)
+
+  abbrev meetings : List Verdict
+  meetings = map CodeMeetsTable (engineNumbers P)
+
+  abbrev words : List Verdict
+  words = joined (undefinedAt p P) (engineNumbers P)
+
+  sound-met : Met (objectionsTo P p) ↔ Sound P p image
+  sound-met = (
+    λ h.
+        let s = met-append (Condition P p image) (orders ++ meetings) words .0 (h .1) in
+        let t = met-append (Condition P p image) orders meetings .0 (s .0) in
+        record { words = h .0; ordered = orders-met .0 (t .0); apart = meetings-met .0 (t .1); defined = engines-defined .0 (s .1) },
+    λ s. (
+      s .words,
+      met-append (Condition P p image) (orders ++ meetings) words .1 (
+        met-append (Condition P p image) orders meetings .1 (orders-met .1 (s .ordered), meetings-met .1 (s .apart)),
+        engines-defined .1 (s .defined),
+      ),
+    ),
+  )
+
+  pub writable-exactly : (writableOf P p image ≡ Accept) ↔ Sound P p image
+  unfolding writableOf
+  writable-exactly = Iff·trans (none-fails (objectionsTo P p)) sound-met
+
+-- 11 and 12 by themselves, whatever the image
+pub ranges-exactly : (P : Profile) (p : Plan)
+    → (checkRangesOf P p ≡ Accept) ↔ (((i : ℕ) → Condition P p [] (OutOfOrder i)) × ((i : ℕ) → Condition P p [] (CodeMeetsTable i)))
+unfolding checkRangesOf
+ranges-exactly P p =
+    Iff·trans (none-fails P p [] (orders P p [] ++ meetings P p [])) (
+      λ h.
+          let t = met-append (Condition P p []) (orders P p []) (meetings P p []) .0 h in
+          (orders-met P p [] .0 (t .0), meetings-met P p [] .0 (t .1)),
+      λ h. met-append (Condition P p []) (orders P p []) (meetings P p []) .1 (orders-met P p [] .1 (h .0), meetings-met P p [] .1 (h .1)),
+    )

@@ -1,0 +1,26 @@
+-- The answers in document 01's terms: each case's number, and the values beside it.
+use Prim.Native.Nat.{ℕ}
+use mathlib.Core.List.{List}
+use Rattle.plan.specs.Verdict.{Report, report, reportOf}
+use Rattle.asm.specs.declared.Assembled.{Assembled}
+use Rattle.asm.specs.declared.Assembled.the-variants.{Program, WrongLength, Malformed, UnknownOp, OutsideField, WrongLineCount, OutOfOrder, CodeMeetsTable}
+use Rattle.asm.specs.declared.Disassembled.{Disassembled}
+use Rattle.asm.specs.declared.Disassembled.the-variants.{Length, Refused, TooShort}
+use Rattle.asm.specs.Reading.{Sheet, program, refused-at}
+
+-- The assembler's, with the words that it left in the lent image.
+abbrev pub readingOf : Assembled → List ℕ → Sheet
+readingOf (Program p) ws = program p ws
+readingOf WrongLength ws = refused-at 9 0
+readingOf (Malformed l) ws = refused-at 20 l
+readingOf (UnknownOp l) ws = refused-at 21 l
+readingOf (OutsideField l) ws = refused-at 22 l
+readingOf WrongLineCount ws = refused-at 23 0
+readingOf OutOfOrder ws = refused-at 11 0
+readingOf CodeMeetsTable ws = refused-at 12 0
+
+-- The disassembler's, as the checker reports; zeros for success.
+abbrev pub writingOf : Disassembled → Report
+writingOf (Length n) = report 0 0 0
+writingOf (Refused v) = reportOf v
+writingOf TooShort = report 24 0 0

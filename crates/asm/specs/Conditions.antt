@@ -1,0 +1,115 @@
+-- When a sheet is refused, as plain statements ("Numbers of refusal" and the paragraph under its table). That the reader gives each number
+-- exactly there is stated below; the proofs are in proofs/Exactly.antt. What makes a line bad is in the conditions of `grammar` and `op_lines`.
+use Prim.Native.Nat.{ℕ, _+_, _-_, _<_}
+use mathlib.Core.Bool.{cond}
+use mathlib.Core.List.{List, [], _∷_}
+use mathlib.Core.Logic.{_↔_, _⊎_}
+use mathlib.Core.Path.{_≡_}
+use lib.Dec.{ltb}
+use lib.ListN.{length, getD}
+use Rattle.text.specs.Bytes.{lineFeed, split}
+use Rattle.word.specs.Profile.{Profile, wordsOf, enginesOf}
+use Rattle.plan.specs.declared.EnginePlan.{EnginePlan}
+use Rattle.plan.specs.declared.Plan.{Plan}
+use Rattle.plan.specs.declared.Verdict.the-variants.{OutOfOrder, CodeMeetsTable}
+use Rattle.plan.specs.Conditions.{Condition}
+use Rattle.grammar.specs.declared.Form.{Form}
+use Rattle.grammar.specs.declared.Form.the-variants.{Spare}
+use Rattle.grammar.specs.Form.{Reading, values, refused}
+use Rattle.grammar.specs.Grammar.{readLine}
+use Rattle.asm.specs.Places.{formAt}
+use Rattle.asm.specs.PlanLines.{engineForms, planOf, enginePlanOf}
+use Rattle.asm.specs.Reading.{readWordLine, refused-at, readSheet}
+
+-- A line of a text: ended by its LF, or cut off by the text's end.
+pub data Line : Type 0 where
+  whole : List ℕ → Line
+  cut : List ℕ → Line
+
+-- What stands after the last LF: no line where it is nothing.
+abbrev pub lastLine : List ℕ → List Line
+lastLine [] = []
+lastLine (x ∷ p) = cut (x ∷ p) ∷ []
+
+abbrev pub linesIn : List (List ℕ) → List Line
+linesIn [] = []
+linesIn (p ∷ []) = lastLine p
+linesIn (p ∷ q ∷ ps) = whole p ∷ linesIn (q ∷ ps)
+
+unfoldable pub linesOf : List ℕ → List Line
+linesOf text = linesIn (split lineFeed text)
+
+-- The plans that the plan lines say.
+abbrev pub planIn : Reading → EnginePlan
+planIn (values ns) = enginePlanOf ns
+planIn (refused k) = enginePlanOf []
+
+abbrev pub plansIn : Profile → List Form → List Line → List EnginePlan
+plansIn P [] ls = []
+plansIn P (f ∷ fs) [] = []
+plansIn P (f ∷ fs) (whole p ∷ ls) = planIn (readLine P f p) ∷ plansIn P fs ls
+plansIn P (f ∷ fs) (cut p ∷ ls) = planIn (readLine P f p) ∷ plansIn P fs ls
+
+abbrev pub planSaid : Profile → List Line → Plan
+planSaid P ls = planOf P (plansIn P (engineForms P) ls)
+
+-- The number of a line's refusal, 0 for none: a plan line's, and a word line's.
+abbrev pub refusalOf : Reading → ℕ
+refusalOf (values ns) = 0
+refusalOf (refused k) = k
+
+abbrev pub planLineNumber : Profile → Form → Line → ℕ
+planLineNumber P f (whole p) = refusalOf (readLine P f p)
+planLineNumber P f (cut p) = 20
+
+abbrev pub wordLineNumber : Profile → Form → Line → ℕ
+wordLineNumber P f (whole p) = readWordLine P f p .number
+wordLineNumber P f (cut p) = 20
+
+-- Of the line at place k, counted from 0, in a sheet with these lines.
+unfoldable pub numberAt : Profile → List Line → ℕ → ℕ
+numberAt P ls k =
+    cond
+    (ltb k (enginesOf P))
+    (planLineNumber P (getD (engineForms P) k Spare) (getD ls k (cut [])))
+    (wordLineNumber P (formAt P (planSaid P ls) (k - enginesOf P)) (getD ls k (cut [])))
+
+-- As many lines as plans and words: "not exactly 99 lines".
+abbrev pub lineCount : Profile → ℕ
+lineCount P = enginesOf P + wordsOf P
+
+-- The first k lines, as far as there are so many, are good.
+abbrev pub GoodTo : Profile → List Line → ℕ → Type 0
+GoodTo P ls k = (j : ℕ) → j < k → j < length ls → numberAt P ls j ≡ 0
+
+-- "The first bad line among lines 1..99, with its number".
+pub record FirstBad (P : Profile) (ls : List Line) (k n : ℕ) : Type 0 where
+  pub among : k < lineCount P
+  pub there : k < length ls
+  pub before : GoodTo P ls k
+  pub bad : numberAt P ls k ≡ n
+  pub refusal : n ≡ 0 → ⊥
+
+abbrev pub Ordered : Profile → Plan → Type 0
+Ordered P p = (i : ℕ) → Condition P p [] (OutOfOrder i)
+
+abbrev pub Apart : Profile → Plan → Type 0
+Apart P p = (i : ℕ) → Condition P p [] (CodeMeetsTable i)
+
+-- All lines are good, and there are as many as there have to be.
+abbrev pub GoodLines : Profile → List Line → Type 0
+GoodLines P ls = GoodTo P ls (lineCount P) × (length ls ≡ lineCount P)
+
+-- Each refusal is given exactly where its condition holds and no earlier line's or lower number's does.
+pub record Exactly (P : Profile) (text : List ℕ) : Type 0 where
+  pub line : (k n : ℕ) → (readSheet P text ≡ refused-at n (k + 1)) ↔ FirstBad P (linesOf text) k n
+  pub is23 : (readSheet P text ≡ refused-at 23 0) ↔ (GoodTo P (linesOf text) (lineCount P) × (length (linesOf text) ≡ lineCount P → ⊥))
+  pub is11 : (readSheet P text ≡ refused-at 11 0) ↔ (GoodLines P (linesOf text) × (Ordered P (planSaid P (linesOf text)) → ⊥))
+  pub is12 :
+      (readSheet P text ≡ refused-at 12 0)
+      ↔ (GoodLines P (linesOf text) × Ordered P (planSaid P (linesOf text)) × (Apart P (planSaid P (linesOf text)) → ⊥))
+  pub others : (n : ℕ) → readSheet P text ≡ refused-at n 0 → (n ≡ 23) ⊎ ((n ≡ 11) ⊎ (n ≡ 12))
+
+-- 3. The reader's refusals are exactly the paper's.
+abbrev pub RefusesExactly : Type 0
+RefusesExactly = (P : Profile) (text : List ℕ) → Exactly P text

@@ -1,0 +1,25 @@
+-- What stands at an address of a sheet ("op lines in code, `row=` in tables, `spare=` elsewhere"; "An address in both code and table is read
+-- as code").
+use Prim.Native.Nat.{ℕ}
+use mathlib.Core.Bool.{Bool, false, cond, _||_}
+use mathlib.Core.List.{List, [], _∷_}
+use Rattle.word.specs.Profile.{Profile}
+use Rattle.plan.specs.declared.EnginePlan.{EnginePlan}
+use Rattle.plan.specs.declared.EnginePlan.the-variants.{Unused, Code, CodeAndTable}
+use Rattle.plan.specs.declared.Plan.{Plan}
+use Rattle.plan.specs.Ranges.{enginePlans}
+use Rattle.plan.specs.Tests.{inRange, inCode}
+use Rattle.grammar.specs.declared.Form.{Form}
+use Rattle.grammar.specs.declared.Form.the-variants.{Op, Row, Spare}
+
+abbrev pub inTable : EnginePlan → ℕ → Bool
+inTable Unused a = false
+inTable (Code f l) a = false
+inTable (CodeAndTable f l t b) a = inRange t b a
+
+abbrev pub anyHas : (EnginePlan → ℕ → Bool) → List EnginePlan → ℕ → Bool
+anyHas has [] a = false
+anyHas has (q ∷ qs) a = has q a || anyHas has qs a
+
+unfoldable pub formAt : Profile → Plan → ℕ → Form
+formAt P p a = cond (anyHas inCode (enginePlans P p) a) Op (cond (anyHas inTable (enginePlans P p) a) Row Spare)

@@ -1,0 +1,38 @@
+-- What is promised of sheets. The proofs are in proofs/Theorems.antt.
+use Prim.Native.Nat.{ℕ, _≤_}
+use mathlib.Core.List.{List}
+use mathlib.Core.Path.{_≡_}
+use lib.ListN.{length, getD}
+use Rattle.word.specs.Profile.{Profile, wordsOf}
+use Rattle.plan.specs.declared.Plan.{Plan}
+use Rattle.plan.specs.declared.Verdict.the-variants.{OutOfOrder, CodeMeetsTable, UndefinedWord}
+use Rattle.plan.specs.Ranges.{planAt, InCode}
+use Rattle.plan.specs.Conditions.{Condition}
+use Rattle.word.specs.Decode.{addressAt}
+use Rattle.asm.specs.declared.Disassembled.the-variants.{Length}
+use Rattle.asm.specs.Reading.{program, assembleOf}
+use Rattle.asm.specs.Writing.{sheetOf, disassembleOf}
+
+-- 1. A sheet that is read without refusal is written again as the same bytes, given room.
+abbrev pub SheetAgain : Type 0
+SheetAgain =
+    (P : Profile) (text image : List ℕ) (p : Plan) (words room : ℕ) → assembleOf P words text ≡ program p image → length text ≤ room
+    → (sheetOf P p image ≡ text) × (disassembleOf P p image room ≡ Length (length text))
+
+-- 2. A plan and image that are written are read back as the same plan and image. A word has 16 bits.
+abbrev pub ProgramAgain : Type 0
+ProgramAgain =
+    (P : Profile) (image : List ℕ) (p : Plan) (room n : ℕ) → ((a : ℕ) → getD image a 0 ≤ 65535) → disassembleOf P p image room ≡ Length n
+    → assembleOf P (wordsOf P) (sheetOf P p image) ≡ program p image
+
+-- 3 is RefusesExactly in Conditions.antt.
+
+-- 4. A sheet that is read satisfies 9, 11 and 12, and every code word in it is defined, so that 13 is not given either.
+pub record Sound (P : Profile) (p : Plan) (image : List ℕ) : Type 0 where
+  pub words : length image ≡ wordsOf P
+  pub ordered : (i : ℕ) → Condition P p image (OutOfOrder i)
+  pub apart : (i : ℕ) → Condition P p image (CodeMeetsTable i)
+  pub defined : (i a : ℕ) → InCode (planAt P p i) a → Condition P p image (UndefinedWord i (addressAt a))
+
+abbrev pub ReadsSound : Type 0
+ReadsSound = (P : Profile) (text image : List ℕ) (p : Plan) (words : ℕ) → assembleOf P words text ≡ program p image → Sound P p image

@@ -1,0 +1,86 @@
+-- Writing a sheet ("The writer checks 9, 11, 12, 13, 24, reporting as the checker does; 9 and 24 with zeros"; "The writer changes only the
+-- text's own bytes").
+use Prim.Native.Nat.{ℕ, _+_}
+use mathlib.Core.Bool.{cond}
+use mathlib.Core.List.{List, [], _∷_, _++_, map}
+use lib.Dec.{leb}
+use lib.ListN.{length}
+use Rattle.text.specs.Bytes.{lineFeed}
+use Rattle.word.specs.Profile.{Profile}
+use Rattle.word.specs.Decode.{addressAt}
+use Rattle.plan.specs.declared.EnginePlan.{EnginePlan}
+use Rattle.plan.specs.declared.Plan.{Plan}
+use Rattle.plan.specs.declared.Verdict.{Verdict}
+use Rattle.plan.specs.declared.Verdict.the-variants.{WrongLength, OutOfOrder, CodeMeetsTable, UndefinedWord}
+use Rattle.plan.specs.Ranges.{enginePlans, planAt, codeAddresses}
+use Rattle.plan.specs.Tests.{holds}
+use Rattle.plan.specs.Check.{engineNumbers, joined, firstFailing}
+use Rattle.plan.specs.Passes.{isAccept}
+use Rattle.grammar.specs.declared.Form.{Form}
+use Rattle.grammar.specs.declared.Form.the-variants.{Op, Engine1, Engine2, Engine3, Row, Spare}
+use Rattle.grammar.specs.Grammar.{writeLine}
+use Rattle.op_lines.specs.Lines.{opLineOf, over}
+use Rattle.asm.specs.declared.Disassembled.{Disassembled}
+use Rattle.asm.specs.declared.Disassembled.the-variants.{Length, Refused, TooShort}
+use Rattle.asm.specs.Places.{formAt}
+use Rattle.asm.specs.PlanLines.{engineForms, planValues}
+
+-- The line of a word at a place of this form.
+abbrev pub wordLine : Profile → Form → ℕ → List ℕ
+wordLine P Op w = opLineOf P w
+wordLine P Engine1 w = writeLine P Engine1 (w ∷ [])
+wordLine P Engine2 w = writeLine P Engine2 (w ∷ [])
+wordLine P Engine3 w = writeLine P Engine3 (w ∷ [])
+wordLine P Row w = writeLine P Row (w ∷ [])
+wordLine P Spare w = writeLine P Spare (w ∷ [])
+
+-- The plan lines, from engine i on.
+unfoldable pub planLines : Profile → ℕ → List Form → List EnginePlan → List (List ℕ)
+planLines P i [] qs = []
+planLines P i (f ∷ fs) [] = []
+planLines P i (f ∷ fs) (q ∷ qs) = writeLine P f (planValues i q) ∷ planLines P (i + 1) fs qs
+
+-- The word lines, from address a on.
+unfoldable pub wordLines : Profile → Plan → ℕ → List ℕ → List (List ℕ)
+wordLines P p a [] = []
+wordLines P p a (w ∷ ws) = wordLine P (formAt P p a) w ∷ wordLines P p (a + 1) ws
+
+-- "LF after each line".
+unfoldable pub ended : List (List ℕ) → List ℕ
+ended [] = []
+ended (l ∷ ls) = l ++ (lineFeed ∷ ended ls)
+
+unfoldable pub sheetOf : Profile → Plan → List ℕ → List ℕ
+sheetOf P p image = ended (planLines P 1 (engineForms P) (enginePlans P p) ++ wordLines P p 0 image)
+
+-- 13 for each code word of engine i, upward.
+abbrev pub undefinedAt : Plan → Profile → ℕ → List Verdict
+undefinedAt p P i = map (λ (a : ℕ). UndefinedWord i (addressAt a)) (codeAddresses (planAt P p i))
+
+-- What can be said against writing a plan and its image, in order: 9, 11, 12, 13.
+abbrev pub objectionsTo : Profile → Plan → List Verdict
+objectionsTo P p =
+    WrongLength ∷
+    map OutOfOrder (engineNumbers P) ++
+    map CodeMeetsTable (engineNumbers P) ++
+    joined (undefinedAt p P) (engineNumbers P)
+
+unfoldable pub writableOf : Profile → Plan → List ℕ → Verdict
+writableOf P p image = firstFailing (holds P p image) (objectionsTo P p)
+
+-- Where there is room for so many bytes.
+unfoldable pub disassembleOf : Profile → Plan → List ℕ → ℕ → Disassembled
+disassembleOf P p image room =
+    cond
+    (isAccept (writableOf P p image))
+    (cond (leb (length (sheetOf P p image)) room) (Length (length (sheetOf P p image))) TooShort)
+    (Refused (writableOf P p image))
+
+-- The lent bytes afterwards.
+abbrev pub wroteOver : Disassembled → List ℕ → List ℕ → List ℕ
+wroteOver (Length n) text old = over text old
+wroteOver (Refused v) text old = old
+wroteOver TooShort text old = old
+
+unfoldable pub bytesAfter : Profile → Plan → List ℕ → List ℕ → List ℕ
+bytesAfter P p image old = wroteOver (disassembleOf P p image (length old)) (sheetOf P p image) old
