@@ -1,0 +1,21 @@
+// Plays a script, the standard input, on the reader and the writer of sheets (crates asm and
+// op_lines). Writes each line of the script, with the answers of what was called.
+mod arguments;
+mod names;
+mod numbers;
+mod ops;
+mod plans;
+mod print;
+mod program;
+mod reading;
+mod script;
+mod sheet;
+mod state;
+mod writing;
+
+fn main() {
+    let mut buf = io::large_buffer();
+    let n = io::read_full(0, &mut buf);
+    let mut sheet = [0u8; 8192];
+    script::play(&buf[..n], &mut sheet);
+}

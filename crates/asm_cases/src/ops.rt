@@ -1,0 +1,78 @@
+// Single op lines: read as a code, and written from one.
+use super::print;
+use super::sheet::up_to;
+use super::writing::FILL;
+use super::writing::kept;
+use op_lines::WordLine;
+use op_lines::WordWritten;
+ghost use mathlib.Core.Path.{_≡_};
+ghost use Rattle.op_lines.specs.Lines.{answerOf, writtenNumber};
+
+fn read_number(read: WordLine) -> u16
+    ensures { λ r. ⌜ r ≡ answerOf read .number ⌝ }
+{
+    match read {
+        WordLine::Code(_) => 0,
+        WordLine::Malformed => 20,
+        WordLine::UnknownOp => 21,
+        WordLine::OutsideField => 22,
+    }
+}
+
+fn written_number(written: WordWritten) -> u16
+    ensures { λ r. ⌜ r ≡ writtenNumber written ⌝ }
+{
+    match written {
+        WordWritten::Length(_) => 0,
+        WordWritten::UndefinedWord => 13,
+        WordWritten::TooShort => 24,
+    }
+}
+
+fn length_of(written: WordWritten) -> usize {
+    let WordWritten::Length(n) = written else {
+        return 0;
+    };
+    n
+}
+
+fn called(code: u16, out: &mut [u8], room: usize) -> WordWritten {
+    if room > out.len() {
+        return WordWritten::TooShort;
+    }
+    op_lines::disassemble_word(code, &mut out[..room])
+}
+
+// Whether a code is written as the line that it was read from.
+fn print_again(code: u16, line: &[u8]) {
+    let mut out = [FILL; 100];
+    let written = called(code, &mut out, 100);
+    print::text(b" written=");
+    print::same(text::same(up_to(&out, length_of(written)), line));
+}
+
+pub fn read(line: &[u8]) {
+    let read = op_lines::assemble_line(line);
+    print::text(b": number=");
+    print::decimal(read_number(read));
+    let WordLine::Code(code) = read else {
+        return;
+    };
+    print::text(b" code=");
+    print::hex(code);
+    print_again(code, line);
+}
+
+pub fn write(code: u16, room: usize) {
+    let mut out = [FILL; 8192];
+    let written = called(code, &mut out, room);
+    let end = length_of(written);
+    print::text(b": number=");
+    print::decimal(written_number(written));
+    print::text(b" code=");
+    print::hex(code);
+    print::text(b" rest=");
+    print::kept(kept(&out, end));
+    print::text(b" ");
+    print::text(up_to(&out, end));
+}
