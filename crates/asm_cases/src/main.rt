@@ -1,6 +1,7 @@
 // Plays a script, the standard input, on the reader and the writer of sheets (crates asm and
 // op_lines). Writes each line of the script, with the answers of what was called.
 mod arguments;
+mod lent;
 mod names;
 mod numbers;
 mod ops;
@@ -8,6 +9,7 @@ mod plans;
 mod print;
 mod program;
 mod reading;
+mod reports;
 mod script;
 mod sheet;
 mod state;

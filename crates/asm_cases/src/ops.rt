@@ -1,8 +1,8 @@
 // Single op lines: read as a code, and written from one.
+use super::lent::FILL_BYTE;
+use super::lent::bytes_kept;
 use super::print;
 use super::sheet::up_to;
-use super::writing::FILL;
-use super::writing::kept;
 use op_lines::WordLine;
 use op_lines::WordWritten;
 ghost use mathlib.Core.Path.{_≡_};
@@ -36,6 +36,7 @@ fn length_of(written: WordWritten) -> usize {
     n
 }
 
+// More than there is cannot be lent.
 fn called(code: u16, out: &mut [u8], room: usize) -> WordWritten {
     if room > out.len() {
         return WordWritten::TooShort;
@@ -45,7 +46,7 @@ fn called(code: u16, out: &mut [u8], room: usize) -> WordWritten {
 
 // Whether a code is written as the line that it was read from.
 fn print_again(code: u16, line: &[u8]) {
-    let mut out = [FILL; 100];
+    let mut out = [FILL_BYTE; 100];
     let written = called(code, &mut out, 100);
     print::text(b" written=");
     print::same(text::same(up_to(&out, length_of(written)), line));
@@ -64,7 +65,7 @@ pub fn read(line: &[u8]) {
 }
 
 pub fn write(code: u16, room: usize) {
-    let mut out = [FILL; 8192];
+    let mut out = [FILL_BYTE; 8192];
     let written = called(code, &mut out, room);
     let end = length_of(written);
     print::text(b": number=");
@@ -72,7 +73,7 @@ pub fn write(code: u16, room: usize) {
     print::text(b" code=");
     print::hex(code);
     print::text(b" rest=");
-    print::kept(kept(&out, end));
+    print::kept(bytes_kept(&out, end));
     print::text(b" ");
     print::text(up_to(&out, end));
 }

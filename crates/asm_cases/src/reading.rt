@@ -1,4 +1,6 @@
 // The reader's answer: document 01's number and line, and whether the lent image was kept.
+use super::lent::FILL_WORD;
+use super::lent::words_kept;
 use super::print;
 use super::sheet::up_to;
 use super::state::State;
@@ -6,9 +8,6 @@ use super::state::with_program;
 use asm::Assembled;
 ghost use mathlib.Core.Path.{_≡_};
 ghost use Rattle.asm_cases.specs.Numbers.{numberOf, lineOf};
-
-// What the lent words are before the call: 5A5A.
-const FILL: u16 = 23130;
 
 struct Answer {
     number: u16,
@@ -43,17 +42,7 @@ fn print_answer(a: Answer) {
     print::decimal(a.line);
 }
 
-fn kept(words: &[u16]) -> bool {
-    let mut i = 0;
-    while i < words.len() {
-        if words[i] != FILL {
-            return false;
-        }
-        i += 1;
-    }
-    true
-}
-
+// More than there is cannot be lent.
 fn called(text: &[u8], lent: &mut [u16], words: usize) -> Assembled {
     if words > lent.len() {
         return Assembled::WrongLength;
@@ -63,11 +52,11 @@ fn called(text: &[u8], lent: &mut [u16], words: usize) -> Assembled {
 
 // Reads the sheet; the program changes only where it was read.
 pub fn read(s: State, sheet: &[u8]) -> State {
-    let mut lent = [FILL; 100];
+    let mut lent = [FILL_WORD; 100];
     let read = called(up_to(sheet, s.sheet), &mut lent, s.words);
     print_answer(answer_of(read));
     print::text(b" image=");
-    print::kept(kept(&lent));
+    print::kept(words_kept(&lent));
     let Assembled::Program(plan) = read else {
         return s;
     };

@@ -1,9 +1,9 @@
--- `asm_cases::reading::kept` is safe and ends.
+-- `asm_cases::lent::words_kept` is safe and ends.
 use Prim.Native.Nat.{_-_}
 use native.Mathlib.Omega.{arith}
 use lib.ListN.{length}
-use Rattle.asm_cases.proofs.reading.kept.Statement.{statement}
-use Rattle.asm_cases.proofs.reading.kept.Tie as tie
+use Rattle.asm_cases.proofs.lent.words_kept.Statement.{statement}
+use Rattle.asm_cases.proofs.lent.words_kept.Tie as tie
 
 abbrev Inv-loop : tie.InvT-loop
 Inv-loop words i₀ i = Unit {0}
@@ -11,8 +11,8 @@ Inv-loop words i₀ i = Unit {0}
 abbrev μ-loop : tie.MeasureT-loop
 μ-loop words i₀ i = length words - i
 
-pub kept-spec : {M : Type 1} → statement M
-kept-spec =
+pub words-kept-spec : {M : Type 1} → statement M
+words-kept-spec =
     tie.close
     (tie.spec
     Inv-loop

@@ -1,9 +1,9 @@
--- `asm_cases::writing::kept` is safe and ends.
+-- `asm_cases::lent::bytes_kept` is safe and ends.
 use Prim.Native.Nat.{_-_}
 use native.Mathlib.Omega.{arith}
 use lib.ListN.{length}
-use Rattle.asm_cases.proofs.writing.kept.Statement.{statement}
-use Rattle.asm_cases.proofs.writing.kept.Tie as tie
+use Rattle.asm_cases.proofs.lent.bytes_kept.Statement.{statement}
+use Rattle.asm_cases.proofs.lent.bytes_kept.Tie as tie
 
 abbrev Inv-loop : tie.InvT-loop
 Inv-loop bytes from i₀ i = Unit {0}
@@ -11,8 +11,8 @@ Inv-loop bytes from i₀ i = Unit {0}
 abbrev μ-loop : tie.MeasureT-loop
 μ-loop bytes from i₀ i = length bytes - i
 
-pub kept-spec : {M : Type 1} → statement M
-kept-spec =
+pub bytes-kept-spec : {M : Type 1} → statement M
+bytes-kept-spec =
     tie.close
     (tie.spec
     Inv-loop
