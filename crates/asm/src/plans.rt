@@ -49,7 +49,7 @@ pub(super) fn read_plan(text: &[u8], at: usize, form: Form, number: u16) -> Plan
     ensures { λ r. ⌜ ((fs : List Form) (qs : List EnginePlan) (ws : List ℕ) → thenPlans r (now (text .entry)) number fs qs ws ≡ readPlans LP5523 (form ∷ fs) number qs (linesFrom at (now (text .entry)))) ⌝ }
     ensures { λ r. ⌜ Within r (now (text .entry)) ⌝ }
 {
-    let line = text::part_at(text, at, LINE_FEED);
+    let line = text_pairs::part_at(text, at, LINE_FEED);
     let end = at + line.len();
     if end >= text.len() {
         return PlanLine::Refused(unended(line, number));
@@ -98,5 +98,5 @@ pub(super) fn put_plan(out: &mut [u8], at: usize, form: Form, engine: u16, q: En
     ensures { λ r. ⌜ Put (now (out .entry)) (now (out .exit)) (writeLine LP5523 form (planValues engine q) ++ (lineFeed ∷ [])) at r ⌝ }
 {
     let next = grammar::put_line(out, at, form, plan_values(engine, q));
-    text::put_byte(out, next, LINE_FEED)
+    text_writing::put_byte(out, next, LINE_FEED)
 }

@@ -60,7 +60,7 @@ fn put_word(out: &mut [u8], at: usize, form: Form, code: u16) -> usize
 {
     if let Form::Op = form {
         let end = op_lines::put_op_line(out, at, code);
-        return text::put_byte(out, end, LINE_FEED);
+        return text_writing::put_byte(out, end, LINE_FEED);
     }
     let v = Values {
         a: code,
@@ -72,7 +72,7 @@ fn put_word(out: &mut [u8], at: usize, form: Form, code: u16) -> usize
         g: 0,
     };
     let end = grammar::put_line(out, at, form, v);
-    text::put_byte(out, end, LINE_FEED)
+    text_writing::put_byte(out, end, LINE_FEED)
 }
 
 // Writes the lines of all words.

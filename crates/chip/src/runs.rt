@@ -1,9 +1,5 @@
 // A run of beats.
-use super::parts::chip_of;
-use super::parts::cores_of;
-use super::parts::counts_of;
-use super::parts::levels_of;
-use super::spans::span;
+use beats::advance;
 use machine::Chip;
 use machine::Outcome;
 use machine::Ran;
@@ -26,28 +22,6 @@ pub fn run(chip: Chip, beats: u32) -> Ran
             words: [0; 3],
         };
     }
-    let memory = chip.memory;
-    let outputs = chip.outputs;
-    let mut levels = levels_of(outputs);
-    let mut counts1 = counts_of(chip, 0);
-    let mut counts2 = counts_of(chip, 1);
-    let mut counts3 = counts_of(chip, 2);
-    let t = span(
-        cores_of(chip),
-        chip.enabled,
-        chip.d,
-        &memory,
-        &mut levels,
-        &mut counts1,
-        &mut counts2,
-        &mut counts3,
-        beats,
-    );
-    let k = t.cores;
-    Ran {
-        outcome: Outcome::Success,
-        chip: chip_of(chip, k, levels, counts1, counts2, counts3),
-        beats: t.beats,
-        words: [t.words1, t.words2, t.words3],
-    }
+    let s = advance(chip, false, beats);
+    s.ran
 }

@@ -48,7 +48,7 @@ fn in_ranges(n: u16, kind: usize) -> bool
 pub(super) fn read_number(v: &[u8]) -> Value
     ensures { λ r. ⌜ r ≡ held (upto 65535) (readNumber 65535 (now (v .entry))) ⌝ }
 {
-    let d = text::read_decimal(v, 65535);
+    let d = text_numbers::read_decimal(v, 65535);
     let Decimal::Number(n) = d else {
         return refused(d);
     };
@@ -95,7 +95,7 @@ pub(super) fn put_value(out: &mut [u8], at: usize, kind: usize, n: u16) -> usize
     ensures { λ r. ⌜ Put (now (out .entry)) (now (out .exit)) (writeValue (kindAt kind) n) at r ⌝ }
 {
     if kind < NUMBERS {
-        return text::put_decimal(out, at, n as u32);
+        return text_writing::put_decimal(out, at, n as u32);
     }
     let k = kind - NUMBERS;
     let place = n as usize;

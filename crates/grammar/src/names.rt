@@ -424,7 +424,7 @@ pub(super) fn value_after(pair: &[u8], k: usize) -> &[u8]
     let places = NAME_AT;
     let a = places[k] as usize;
     let e = places[k + 1] as usize;
-    text::value_of(pair, &NAMES[a..e])
+    text_pairs::value_of(pair, &NAMES[a..e])
 }
 
 pub(super) fn put_name(out: &mut [u8], at: usize, k: usize) -> usize
@@ -434,5 +434,5 @@ pub(super) fn put_name(out: &mut [u8], at: usize, k: usize) -> usize
     let places = NAME_AT;
     let a = places[k] as usize;
     let e = places[k + 1] as usize;
-    text::put_bytes(out, at, &NAMES[a..e])
+    text_writing::put_bytes(out, at, &NAMES[a..e])
 }

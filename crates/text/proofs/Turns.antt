@@ -1,18 +1,15 @@
 -- One turn of each function's walk over a text.
-use Prim.Native.Nat.{ℕ, suc, _+_, _-_, _*_, _≤_, _<_, min}
+use Prim.Native.Nat.{ℕ, suc, _+_, _-_, _≤_, _<_}
 use mathlib.Core.Bool.{Bool, true, false, and-false}
 use mathlib.Core.List.{List, [], _∷_}
 use mathlib.Core.Path.{_≡_, refl, ap}
 use native.Mathlib.Omega.{arith}
 use native.Mathlib.Numerals.{add-one}
-use borrow.Author.Tests.{eq-eqb, ne-eqb, le-leb, lt-leb}
+use borrow.Author.Tests.{eq-eqb, ne-eqb}
 use lib.Dec.{eqb}
 use lib.ListN.{length, getD, take, drop, length-drop, drop-of-length-le}
 use lib.Seq.{drop-cons, take-all}
 use Rattle.text.specs.Bytes.{same, indexOf, valueOf}
-use Rattle.text.specs.Number.{isDigit}
-use Rattle.text.specs.Digits.{tooLarge, scan}
-use Rattle.text.specs.declared.decimals.Digits.the-variants.{Upto, Broken}
 
 -- a fact, from each case of a test
 pub by-test : {A : Type 0} (b : Bool) → (b ≡ true → A) → (b ≡ false → A) → A
@@ -87,22 +84,3 @@ module _ (k p : List ℕ) (i : ℕ) where
   pub value-after : length k ≤ i → i < length p → getD p i 0 ≡ 61 → valueOf (drop i k) (drop i p) ≡ drop (i + 1) p
   unfolding valueOf
   value-after h l e = rw (add-one, drop-of-length-le k h, drop-cons p i 0, eq-eqb (getD p i 0) 61 e)
-
--- ---- digits
-
-module _ (s : List ℕ) (a i : ℕ) where
-  pub scan-low : i < length s → getD s i 0 < 48 → scan a (drop i s) ≡ Broken
-  unfolding scan isDigit
-  scan-low l h = rw (drop-cons s i 0, lt-leb 48 (getD s i 0) h)
-
-  pub scan-high : i < length s → 48 ≤ getD s i 0 → 57 < getD s i 0 → scan a (drop i s) ≡ Broken
-  unfolding scan isDigit
-  scan-high l h k = rw (drop-cons s i 0, le-leb 48 (getD s i 0) h, lt-leb (getD s i 0) 57 k)
-
-  pub scan-digit : i < length s → 48 ≤ getD s i 0 → getD s i 0 ≤ 57 → scan a (drop i s) ≡ scan (min (a * 10 + (getD s i 0 - 48)) tooLarge) (drop (i + 1) s)
-  unfolding scan isDigit
-  scan-digit l h k = rw (add-one, drop-cons s i 0, le-leb 48 (getD s i 0) h, le-leb (getD s i 0) 57 k)
-
-  pub scan-end : length s ≤ i → scan a (drop i s) ≡ Upto a
-  unfolding scan
-  scan-end h = rw (drop-of-length-le s h)

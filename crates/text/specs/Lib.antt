@@ -2,4 +2,3 @@ pub mod Bytes
 pub mod Number
 pub mod Put
 pub mod Theorems
-pub mod Digits

@@ -1,19 +1,5 @@
-// Texts of bytes: their parts, key=value pairs and decimal numbers, read and written. Every function
-// answers for every input.
-mod decimals;
-mod pairs;
-mod pieces;
-mod writing;
-
-pub use decimals::read_decimal;
-pub use pairs::is_pair;
-pub use pairs::is_word;
-pub use pairs::value_of;
-pub use pieces::part_at;
-pub use pieces::same;
-pub use writing::put_byte;
-pub use writing::put_bytes;
-pub use writing::put_decimal;
+// What texts of bytes are: parts between separators, key=value pairs, decimal numbers, and writing into
+// lent bytes. The functions stand in `text_pairs`, `text_numbers` and `text_writing`.
 
 // What reading a decimal number answers.
 pub enum Decimal {

@@ -4,7 +4,7 @@ use mathlib.Core.Path.{_≡_}
 use lib.ListN.{length}
 use borrow.Author.Needs.{needs}
 use Rattle.machine.specs.Parts.{withInterrupt}
-use Rattle.registers.proofs.Three.{each-three}
+use Rattle.cores.proofs.Three.{each-three}
 use Rattle.chip_state.proofs.interrupts.all_lowered.Statement.{statement}
 use Rattle.chip_state.proofs.interrupts.all_lowered.Tie as tie
 

@@ -4,7 +4,7 @@ use mathlib.Core.Path.{_≡_, sym, ap}
 use lib.ListN.{length}
 use borrow.Author.Needs.{needs}
 use Rattle.machine.specs.declared.Engine.{Engine}
-use Rattle.registers.proofs.Three.{three}
+use Rattle.cores.proofs.Three.{three}
 use Rattle.chip_state.proofs.interrupts.flags_of.Statement.{statement}
 use Rattle.chip_state.proofs.interrupts.flags_of.Tie as tie
 

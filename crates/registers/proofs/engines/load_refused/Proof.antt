@@ -8,7 +8,7 @@ use Rattle.machine.specs.declared.Engine.{Engine}
 use Rattle.machine.specs.Registers.{pairOf, modeOf}
 use Rattle.machine.specs.Tick.{isLoad}
 use Rattle.machine.specs.Judged.{inUse, loadRefused}
-use Rattle.registers.proofs.Three.{first-so, second-so, third-so}
+use Rattle.cores.proofs.Three.{first-so, second-so, third-so}
 use Rattle.registers.proofs.engines.load_refused.Statement.{statement}
 use Rattle.registers.proofs.engines.load_refused.Tie as tie
 

@@ -3,7 +3,7 @@ use mathlib.Core.Path.{_≡_, refl}
 use lib.ListN.{length}
 use borrow.Author.Needs.{needs}
 use Rattle.machine.specs.Tick.{some, loads}
-use Rattle.registers.proofs.Three.{first-so, second-so, third-so}
+use Rattle.cores.proofs.Three.{first-so, second-so, third-so}
 use Rattle.registers.proofs.engines.some_loads.Statement.{statement}
 use Rattle.registers.proofs.engines.some_loads.Tie as tie
 

@@ -6,7 +6,7 @@ use borrow.Author.Needs.{needs}
 use Rattle.machine.specs.declared.Engine.{Engine}
 use Rattle.machine.specs.Turn.{midWord}
 use Rattle.machine.specs.Tick.{some}
-use Rattle.registers.proofs.Three.{first-so, second-so, third-so}
+use Rattle.cores.proofs.Three.{first-so, second-so, third-so}
 use Rattle.registers.proofs.engines.some_mid_word.Statement.{statement}
 use Rattle.registers.proofs.engines.some_mid_word.Tie as tie
 

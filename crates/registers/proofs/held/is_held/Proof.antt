@@ -7,7 +7,7 @@ use borrow.Author.Needs.{needs}
 use Rattle.machine.specs.declared.Engine.{Engine}
 use Rattle.machine.specs.Parts.{bit}
 use Rattle.machine.specs.Tick.{some}
-use Rattle.registers.proofs.Three.{first-so, second-so, third-so}
+use Rattle.cores.proofs.Three.{first-so, second-so, third-so}
 use Rattle.registers.proofs.held.is_held.Statement.{statement}
 use Rattle.registers.proofs.held.is_held.Tie as tie
 

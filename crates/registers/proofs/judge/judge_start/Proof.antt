@@ -10,7 +10,7 @@ use Rattle.word.specs.Profile.{LP5523}
 use Rattle.machine.specs.declared.Engine.{Engine}
 use Rattle.machine.specs.Parts.{zeroEngine}
 use Rattle.machine.specs.Judged.{inUse}
-use Rattle.registers.proofs.Three.{getD-any}
+use Rattle.cores.proofs.Three.{getD-any}
 use Rattle.registers.proofs.judge.judge_start.Statement.{statement}
 use Rattle.registers.proofs.judge.judge_start.Tie as tie
 

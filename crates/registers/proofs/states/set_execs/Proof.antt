@@ -4,7 +4,7 @@ use lib.ListN.{length}
 use borrow.Author.Needs.{needs}
 use Rattle.machine.specs.Parts.{withExec}
 use Rattle.machine.specs.Registers.{pairOf, execOf}
-use Rattle.registers.proofs.Three.{each-three}
+use Rattle.cores.proofs.Three.{each-three}
 use Rattle.registers.proofs.states.set_execs.Statement.{statement}
 use Rattle.registers.proofs.states.set_execs.Tie as tie
 

@@ -5,7 +5,7 @@ use borrow.Author.Needs.{needs}
 use Rattle.word.specs.Profile.{LP5523}
 use Rattle.machine.specs.Registers.{pairOf, modeOf}
 use Rattle.machine.specs.Stored.{enters}
-use Rattle.registers.proofs.Three.{each-three}
+use Rattle.cores.proofs.Three.{each-three}
 use Rattle.registers.proofs.states.set_modes.Statement.{statement}
 use Rattle.registers.proofs.states.set_modes.Tie as tie
 

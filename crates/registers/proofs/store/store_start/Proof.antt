@@ -6,7 +6,7 @@ use lib.ListN.{length, set}
 use borrow.Author.Needs.{needs}
 use Rattle.word.specs.Decode.{addressAt}
 use Rattle.machine.specs.Parts.{withStart, withEngines}
-use Rattle.registers.proofs.Three.{getD-any, unmapped}
+use Rattle.cores.proofs.Three.{getD-any, unmapped}
 use Rattle.registers.proofs.store.store_start.Statement.{statement}
 use Rattle.registers.proofs.store.store_start.Tie as tie
 

@@ -1,0 +1,37 @@
+-- `beats::parts::levels_of` meets its contract.
+use Prim.Native.Nat.{_-_, _≤_}
+use mathlib.Core.Path.{_≡_, refl}
+use native.Mathlib.Omega.{arith}
+use borrow.Author.Needs.{needs}
+use lib.ListN.{getD, length}
+use Rattle.beats.specs.Parts.{levelOf, outputOf}
+use Rattle.beats.proofs.Loops.{each-to, one-place-more, filled}
+use Rattle.cores.proofs.Three.{unmapped}
+use Rattle.beats.proofs.parts.levels_of.Statement.{statement}
+use Rattle.beats.proofs.parts.levels_of.Tie as tie
+
+abbrev Inv-loop : tie.InvT-loop
+Inv-loop outputs levels₀ k₀ levels k = (k ≤ 10) × (levels ≡ each-to (λ j y. levelOf (getD outputs j (outputOf 0))) k 0 levels₀)
+
+abbrev μ-loop : tie.MeasureT-loop
+μ-loop outputs levels₀ k₀ levels k = 10 - k
+
+returns : tie.Need-returns Inv-loop μ-loop
+returns c =
+    let e : c .before .loop .k ≡ 10 = omega arith in
+    let l : length (c .before .before .args .t1) ≡ 10 = search (needs, unmapped) in
+    filled levelOf (outputOf 0) 10 _ (c .before .before .args .t1) _ _ (c .before .loop .inv .1) e refl l
+
+pub levels-of-spec : {M : Type 1} → statement M
+levels-of-spec =
+    tie.close
+    (tie.spec
+    Inv-loop
+    μ-loop
+    (λ c. (omega arith, refl))
+    (λ c. omega arith)
+    (λ c. omega arith)
+    (λ c. omega arith)
+    (λ c. omega arith)
+    (λ c. (omega arith, one-place-more _ _ _ _ _ 0 (c .before .before .loop .inv .1) refl))
+    returns)

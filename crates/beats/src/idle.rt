@@ -1,0 +1,98 @@
+// Beats in which the engines do no more than wait: nearly all, where lights stay on long enough to be
+// seen. They are told apart first, since they need no engine's turn.
+use crate::Cores;
+use cores::Core;
+use cores::Status;
+use cores::acts;
+use machine::Progress;
+ghost use mathlib.Core.List.{List};
+ghost use mathlib.Core.Path.{_≡_};
+ghost use Prim.Native.Nat.{ℕ};
+ghost use Rattle.cores.specs.Core.{engineOf};
+ghost use Rattle.beats.specs.Parts.{Fixed, Lent, chipOf};
+ghost use Rattle.beats.specs.Idle.{leftOf, waitLeft, idles, allIdle, idled, allIdled};
+
+// The beats of a wait that are left after this one; 0 for all else.
+fn left_of(progress: Progress) -> u16
+    ensures { λ r. ⌜ r ≡ leftOf progress ⌝ }
+{
+    match progress {
+        Progress::BetweenWords => 0,
+        Progress::Waiting { left } => if left == 0 { 0 } else { left - 1 },
+        Progress::Ramping {
+            dir: _,
+            part: _,
+            left: _,
+            parts: _,
+        } => 0,
+        Progress::Triggering { wait: _, send: _ } => 0,
+    }
+}
+
+fn wait_left(k: Core) -> u16
+    ensures { λ r. ⌜ ((counts : List ℕ) → r ≡ waitLeft (engineOf k counts)) ⌝ }
+{
+    let status = k.status;
+    let progress = status.progress;
+    if !acts(k) {
+        return 0;
+    }
+    left_of(progress)
+}
+
+fn idles(k: Core) -> bool
+    ensures { λ r. ⌜ ((counts : List ℕ) → r ≡ idles (engineOf k counts)) ⌝ }
+{
+    if !acts(k) {
+        return true;
+    }
+    wait_left(k) > 0
+}
+
+fn idled(mut k: Core) -> Core
+    ensures { λ r. ⌜ ((counts : List ℕ) → engineOf r counts ≡ idled (engineOf k counts)) ⌝ }
+{
+    let left = wait_left(k);
+    if left > 0 {
+        let status = k.status;
+        let mode = status.mode;
+        let exec = status.exec;
+        let waiting = Status {
+            mode,
+            exec,
+            progress: Progress::Waiting { left },
+        };
+        k.status = waiting;
+    }
+    k
+}
+
+pub(super) fn all_idle(k: Cores) -> bool
+    ensures { λ r. ⌜ ((f : Fixed) (l : Lent) → r ≡ allIdle (chipOf f k l .engines)) ⌝ }
+{
+    let one = k.one;
+    let two = k.two;
+    let three = k.three;
+    if !idles(one) {
+        return false;
+    }
+    if !idles(two) {
+        return false;
+    }
+    idles(three)
+}
+
+// The cores after a beat in which all idle.
+pub(super) fn all_idled(k: Cores) -> Cores
+    ensures { λ r. ⌜ ((f : Fixed) (l : Lent) → chipOf f r l ≡ allIdled (chipOf f k l)) ⌝ }
+{
+    let one = k.one;
+    let two = k.two;
+    let three = k.three;
+    Cores {
+        c: k.c,
+        one: idled(one),
+        two: idled(two),
+        three: idled(three),
+    }
+}
