@@ -30,7 +30,7 @@ const LINE_FEED: u8 = 10;
 fn judged(plan: Plan) -> Assembled
     ensures { λ r. ⌜ ((ws : List ℕ) → readingOf r ws ≡ ranged (reportOf (checkRangesOf LP5523 plan) .number) plan ws) ⌝ }
 {
-    match plan::check_ranges(plan) {
+    match plan_ranges::check_ranges(plan) {
         Verdict::OutOfOrder { engine: _ } => Assembled::OutOfOrder,
         Verdict::CodeMeetsTable { engine: _ } => Assembled::CodeMeetsTable,
         _ => Assembled::Program(plan),

@@ -17,7 +17,7 @@ ghost use Rattle.asm.specs.Walks.{definedFrom, engineDefined, planDefine
 fn is_undefined(code: u16) -> bool
     ensures { λ r. ⌜ r ≡ isFault (flowOf (decodeOf LP5523 code)) ⌝ }
 {
-    if let Word::Undefined = word::decode(code) {
+    if let Word::Undefined = decoder::decode(code) {
         return true;
     }
     false

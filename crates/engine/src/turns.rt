@@ -40,7 +40,7 @@ fn starts(k: Core, c: u8, d: u8, memory: &[u16; 96], counts: &mut [u8; 96]) -> C
     if at >= WORDS {
         return restarts(k, counts, c);
     }
-    begins(k, c, d, memory, counts, at, word::decode(code))
+    begins(k, c, d, memory, counts, at, decoder::decode(code))
 }
 
 // PC as the engine fetches: past the memory's last word it becomes 0 first.

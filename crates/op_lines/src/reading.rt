@@ -40,7 +40,7 @@ fn code_of(v: Values) -> WordLine
         c: v.d,
         d: v.e,
     });
-    let coded = word::encode(i);
+    let coded = encoder::encode(i);
     let Coded::Code(w) = coded else {
         return WordLine::OutsideField;
     };

@@ -16,7 +16,7 @@ ghost use Rattle.op_lines.specs.Lines.{opLineOf, disassembleWordOf, byte
 pub fn put_op_line(out: &mut [u8], at: usize, code: u16) -> usize
     ensures { λ r. ⌜ Put (now (out .entry)) (now (out .exit)) (opLineOf LP5523 code) at r ⌝ }
 {
-    let p = parts::parts_of(word::decode(code));
+    let p = parts::parts_of(decoder::decode(code));
     let v = Values {
         a: p.op,
         b: p.a,
@@ -45,7 +45,7 @@ pub fn disassemble_word(code: u16, out: &mut [u8]) -> WordWritten
     ensures { λ r. ⌜ r ≡ disassembleWordOf LP5523 code (length (now (out .entry))) ⌝ }
     ensures { λ r. ⌜ now (out .exit) ≡ bytesAfter LP5523 code (now (out .entry)) ⌝ }
 {
-    if is_undefined(word::decode(code)) {
+    if is_undefined(decoder::decode(code)) {
         return WordWritten::UndefinedWord;
     }
     let mut none = [0u8; 1];

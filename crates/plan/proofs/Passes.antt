@@ -24,6 +24,16 @@ use Rattle.plan.proofs.Laws.{by-test, is-accept, or-accept, or-refused}
 or-none : (v : Verdict) → orElse v Accept ≡ v
 or-none v = by-test (isAccept v) (λ h. or-accept v Accept h ∙ sym (is-accept v h)) (or-refused v Accept)
 
+or-or : (u v w : Verdict) → orElse (orElse u v) w ≡ orElse u (orElse v w)
+or-or u v w =
+    by-test
+    (isAccept u)
+    (λ h. ap (λ (x : Verdict). orElse x w) (or-accept u v h) ∙ sym (or-accept u (orElse v w) h))
+    (λ h. ap (λ (x : Verdict). orElse x w) (or-refused u v h) ∙ or-refused u w h ∙ sym (or-refused u (orElse v w) h))
+
+left-accepts : (u v : Verdict) → isAccept (orElse u v) ≡ true → isAccept u ≡ true
+left-accepts u v e = by-test (isAccept u) (λ h. h) (λ h. ap isAccept (sym (or-refused u v h)) ∙ e)
+
 step : (b : Bool) (v w x y : Verdict) → (b ≡ false → isAccept v ≡ false) → x ≡ orElse w y → cond b x v ≡ orElse (cond b w v) y
 step true v w x y r e = e
 step false v w x y r e = sym (or-refused v y (r refl))
@@ -90,6 +100,14 @@ module _ (P : Profile) (p : Plan) (image : List ℕ) (i : ℕ) where
       ∙ ap (λ (v : Verdict). orElse v (firstFailing (holds P p image) (TableNotOpened i (addressAt (firstOf q)) ∷ joined (ofRow i) (tableAddresses q)))) (code q e)
       ∙ ap (orElse (codeVerdict P q i image)) (table q e)
 
+-- 11 and 12 by themselves
+both-ranges : (p : Plan) → checkRangesOf LP5523 p ≡ orElse (orderVerdict LP5523 p) (apartVerdict LP5523 p)
+unfolding checkRangesOf firstFailing orderVerdict apartVerdict
+both-ranges p = append (holds LP5523 p []) refl (map OutOfOrder (engineNumbers LP5523)) (map CodeMeetsTable (engineNumbers LP5523))
+
+pub ranges : (p : Plan) {v : Verdict} → v ≡ orElse (orderVerdict LP5523 p) (apartVerdict LP5523 p) → v ≡ checkRangesOf LP5523 p
+ranges p e = e ∙ sym (both-ranges p)
+
 -- the whole
 module _ (p : Plan) (image : List ℕ) where
   abbrev first : List Verdict → Verdict
@@ -119,16 +137,15 @@ module _ (p : Plan) (image : List ℕ) where
   pub wrong-length : (length image ≡ 96 → ⊥) → WrongLength ≡ checkOf LP5523 p image
   wrong-length n = sym (whole ∙ simp (ne-eqb (length image) 96 n))
 
-  pub right-length : {v : Verdict} → length image ≡ 96
-      → v ≡ orElse (orderVerdict LP5523 p) (orElse (apartVerdict LP5523 p) (enginesVerdict LP5523 p image)) → v ≡ checkOf LP5523 p image
-  right-length h e = e ∙ sym (whole ∙ simp (eq-eqb (length image) 96 h))
+  pub right-length : {v : Verdict} → length image ≡ 96 → v ≡ orElse (checkRangesOf LP5523 p) (enginesVerdict LP5523 p image) → v ≡ checkOf LP5523 p image
+  right-length h e =
+      let rest = enginesVerdict LP5523 p image in
+      e
+      ∙ ap (λ (v : Verdict). orElse v rest) (both-ranges p)
+      ∙ or-or (orderVerdict LP5523 p) (apartVerdict LP5523 p) rest
+      ∙ sym (whole ∙ simp (eq-eqb (length image) 96 h))
 
--- 11 and 12 by themselves
-pub ranges : (p : Plan) {v : Verdict} → v ≡ orElse (orderVerdict LP5523 p) (apartVerdict LP5523 p) → v ≡ checkRangesOf LP5523 p
-unfolding checkRangesOf firstFailing orderVerdict apartVerdict
-ranges p e = e ∙ sym (append (holds LP5523 p []) refl (map OutOfOrder (engineNumbers LP5523)) (map CodeMeetsTable (engineNumbers LP5523)))
-
--- where 11 has passed, each engine is in order
+-- where 11 and 12 have passed, each engine is in order
 order-at : (a b c : Bool) (i j k : ℕ) → isAccept (cond a (cond b (cond c Accept (OutOfOrder k)) (OutOfOrder j)) (OutOfOrder i)) ≡ true
     → (a ≡ true) × (b ≡ true) × (c ≡ true)
 order-at true true true i j k e = (refl, refl, refl)
@@ -136,7 +153,9 @@ order-at true true false i j k e = (refl, refl, e)
 order-at true false c i j k e = absurd (false≢true e)
 order-at false b c i j k e = absurd (false≢true e)
 
-pub all-in-order : (p : Plan) → isAccept (orderVerdict LP5523 p) ≡ true
+pub all-in-order : (p : Plan) → isAccept (checkRangesOf LP5523 p) ≡ true
     → (inOrder LP5523 (p .engine1) ≡ true) × (inOrder LP5523 (p .engine2) ≡ true) × (inOrder LP5523 (p .engine3) ≡ true)
 unfolding orderVerdict
-all-in-order p e = order-at (inOrder LP5523 (p .engine1)) (inOrder LP5523 (p .engine2)) (inOrder LP5523 (p .engine3)) 1 2 3 e
+all-in-order p e =
+    order-at (inOrder LP5523 (p .engine1)) (inOrder LP5523 (p .engine2)) (inOrder LP5523 (p .engine3)) 1 2 3
+    (left-accepts (orderVerdict LP5523 p) (apartVerdict LP5523 p) (ap isAccept (sym (both-ranges p)) ∙ e))

@@ -1,18 +1,5 @@
-// Plans of light programs, and the program checker. The rules are document 01's, section "The plan
-// and the checker" and its numbers 9 and 11 to 17; specs/ has them.
-mod acceptance;
-mod apart;
-mod checker;
-mod classes;
-mod order;
-mod ranges;
-mod successors;
-mod table;
-mod table_use;
-mod words;
-
-pub use checker::check;
-pub use ranges::check_ranges;
+// Plans of light programs, and what a checker answers about them. The rules are document 01's, section
+// "The plan and the checker" and its numbers 9 and 11 to 17; specs/ has them.
 use word::Address;
 
 // What one engine has: nothing; the code addresses first to last; and perhaps the rows of a mapping

@@ -44,7 +44,7 @@ fn print_number(n: u16) {
 }
 
 pub fn print_case(name: &[u8], plan: Plan, image: &[u16]) {
-    let a = answer_of(plan::check(plan, image));
+    let a = answer_of(plan_check::check(plan, image));
     io::write_all(1, name);
     io::write_all(1, b":");
     print_number(a.number);

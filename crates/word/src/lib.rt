@@ -1,10 +1,5 @@
 // The instruction words of the LP5523: what a word may say, and the answers about it.
 // The rules are document 01's, section "Words"; specs/Table.antt is its table.
-mod decoder;
-mod encoder;
-
-pub use decoder::decode;
-pub use encoder::encode;
 
 // A step counts from the engine's start. The target of a branch is a step.
 pub struct Step(pub u16);

@@ -23,5 +23,5 @@ fn digest(p: Parts) -> u64
 pub extern "C" fn word_digest(code: u16) -> u64
     ensures { λ r. ⌜ r ≡ digestOf (partsOf (decodeOf LP5523 code)) ⌝ }
 {
-    digest(parts::parts_of(word::decode(code)))
+    digest(parts::parts_of(decoder::decode(code)))
 }

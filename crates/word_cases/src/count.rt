@@ -14,7 +14,7 @@ const IS_DEFINED: u16 = 32;
 const ENCODES_BACK: u16 = 33;
 
 fn encodes_to(w: Word, code: u16) -> bool {
-    if let Coded::Code(again) = word::encode(w) {
+    if let Coded::Code(again) = encoder::encode(w) {
         again == code
     } else {
         false
@@ -22,7 +22,7 @@ fn encodes_to(w: Word, code: u16) -> bool {
 }
 
 fn holds(question: u16, code: u16) -> bool {
-    let w = word::decode(code);
+    let w = decoder::decode(code);
     if question == ENCODES_BACK {
         return encodes_to(w, code);
     }

@@ -129,7 +129,7 @@ fn print_answer(answer: Coded) {
 pub fn encoded(w: Word) {
     print_word(w);
     io::write_all(1, b": ");
-    print_answer(word::encode(w));
+    print_answer(encoder::encode(w));
     io::write_all(1, b"\n");
 }
 
@@ -137,6 +137,6 @@ pub fn encoded(w: Word) {
 pub fn decoded(code: u16) {
     print_code(code);
     io::write_all(1, b": ");
-    print_word(word::decode(code));
+    print_word(decoder::decode(code));
     io::write_all(1, b"\n");
 }

@@ -1,0 +1,18 @@
+-- `decoder::decoder::sum_at` meets its contract: the tests that led to a return bound the key. Assumes nothing.
+use Prim.Native.Nat.{_%_}
+use mathlib.Core.Path.{refl}
+use native.Mathlib.Omega.{arith}
+use Rattle.word.specs.Decode.{sums}
+use Rattle.word.proofs.Rows.{returned}
+use Rattle.decoder.proofs.decoder.sum_at.Statement.{statement}
+use Rattle.decoder.proofs.decoder.sum_at.Tie as tie
+
+pub sum-at-spec : {M : Type 1} → statement M
+sum-at-spec =
+    tie.close
+    (tie.spec
+    (λ c. let w = c .before .args .code in returned (sums w) (w % 1024) 0x100 refl (omega arith))
+    (λ c. let w = c .before .before .args .code in returned (sums w) (w % 1024) 0x200 refl (omega arith))
+    (λ c. let w = c .before .before .before .args .code in returned (sums w) (w % 1024) 0x300 refl (omega arith))
+    (λ c. let w = c .before .before .before .before .args .code in returned (sums w) (w % 1024) 0x310 refl (omega arith))
+    (λ c. let w = c .before .before .before .before .args .code in returned (sums w) (w % 1024) 0x400 refl (omega arith)))

@@ -1,0 +1,4 @@
+// From 16 bits to the word that they are. The words and the table are crate word's.
+mod decoder;
+
+pub use decoder::decode;

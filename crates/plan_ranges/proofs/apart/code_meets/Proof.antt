@@ -1,0 +1,17 @@
+-- `plan_ranges::apart::code_meets` meets its contract: each arm knows its case.
+use borrow.Author.Needs.{needs}
+use Rattle.plan_ranges.proofs.apart.code_meets.Statement.{statement}
+use Rattle.plan_ranges.proofs.apart.code_meets.Tie as tie
+
+pub code-meets-spec : {M : Type 1} → statement M
+code-meets-spec =
+    tie.close
+    (tie.spec
+    (search needs)
+    (search needs)
+    (search needs)
+    (search needs)
+    (search needs)
+    (λ c. search needs)
+    (λ c. rw (c .before .before .q .given .1) (c .ranges-meet .ensures))
+    (λ c. rw (c .before .before .q2 .given .1) (c .ranges-meet2 .ensures)))

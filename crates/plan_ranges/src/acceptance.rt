@@ -1,0 +1,14 @@
+// Verdicts, as one part of a checker hands them to the next.
+use plan::Verdict;
+ghost use mathlib.Core.Path.{_≡_};
+ghost use Rattle.plan.specs.Passes.{isAccept};
+
+pub fn is_accept(verdict: Verdict) -> bool
+    ensures { λ r. ⌜ r ≡ isAccept verdict ⌝ }
+{
+    if let Verdict::Accept = verdict {
+        true
+    } else {
+        false
+    }
+}
