@@ -3,7 +3,7 @@
 mod beats;
 mod idle;
 mod outputs;
-mod parts;
+mod split;
 mod pending;
 mod spans;
 mod stops;

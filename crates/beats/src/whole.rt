@@ -1,8 +1,8 @@
 // At most so many beats of a chip.
-use super::parts::chip_of;
-use super::parts::cores_of;
-use super::parts::counts_of;
-use super::parts::levels_of;
+use super::split::chip_of;
+use super::split::cores_of;
+use super::split::counts_of;
+use super::split::levels_of;
 use super::pending::with_pulse;
 use super::spans::span;
 use super::stops::stopped;

@@ -1,7 +1,7 @@
 // An engine without its branch counts: a beat works on it, and only the counts are lent, so that
 // little is copied. It is taken from an engine, put together again, and tells whether it acts.
 mod acting;
-mod parts;
+mod split;
 mod state;
 
 pub use acting::acts;
@@ -9,8 +9,8 @@ use machine::Exec;
 use machine::Mode;
 use machine::Pointers;
 use machine::Progress;
-pub use parts::core_of;
-pub use parts::engine_of;
+pub use split::core_of;
+pub use split::engine_of;
 pub use state::is_load;
 pub use state::mid_word;
 use word::Address;

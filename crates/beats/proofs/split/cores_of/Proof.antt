@@ -1,11 +1,11 @@
--- `beats::parts::cores_of` meets its contract.
+-- `beats::split::cores_of` meets its contract.
 use mathlib.Core.Path.{_≡_, refl}
 use borrow.Author.Needs.{needs}
 use lib.ListN.{length}
 use Rattle.beats.proofs.Engines.{whole}
 use Rattle.cores.proofs.Three.{unmapped}
-use Rattle.beats.proofs.parts.cores_of.Statement.{statement}
-use Rattle.beats.proofs.parts.cores_of.Tie as tie
+use Rattle.beats.proofs.split.cores_of.Statement.{statement}
+use Rattle.beats.proofs.split.cores_of.Tie as tie
 
 returns : tie.Need-returns
 returns c =

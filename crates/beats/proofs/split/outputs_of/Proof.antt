@@ -1,4 +1,4 @@
--- `beats::parts::outputs_of` meets its contract.
+-- `beats::split::outputs_of` meets its contract.
 use Prim.Native.Nat.{_-_, _≤_}
 use mathlib.Core.Path.{_≡_, refl}
 use native.Mathlib.Omega.{arith}
@@ -7,8 +7,8 @@ use lib.ListN.{getD, length}
 use Rattle.beats.specs.Parts.{outputOf}
 use Rattle.beats.proofs.Loops.{each-to, one-place-more, filled}
 use Rattle.cores.proofs.Three.{unmapped}
-use Rattle.beats.proofs.parts.outputs_of.Statement.{statement}
-use Rattle.beats.proofs.parts.outputs_of.Tie as tie
+use Rattle.beats.proofs.split.outputs_of.Statement.{statement}
+use Rattle.beats.proofs.split.outputs_of.Tie as tie
 
 abbrev Inv-loop : tie.InvT-loop
 Inv-loop levels outputs₀ k₀ outputs k = (k ≤ 10) × (outputs ≡ each-to (λ j y. outputOf (getD levels j 0)) k 0 outputs₀)

@@ -1,4 +1,4 @@
--- `beats::parts::counts_of` meets its contract.
+-- `beats::split::counts_of` meets its contract.
 use mathlib.Core.Path.{_≡_, ap}
 use native.Mathlib.Omega.{arith}
 use borrow.Author.Needs.{needs}
@@ -6,8 +6,8 @@ use lib.ListN.{length}
 use Rattle.machine.specs.declared.Engine.{Engine}
 use Rattle.cores.proofs.Three.{unmapped}
 use Rattle.cores.proofs.Three.{getD-any}
-use Rattle.beats.proofs.parts.counts_of.Statement.{statement}
-use Rattle.beats.proofs.parts.counts_of.Tie as tie
+use Rattle.beats.proofs.split.counts_of.Statement.{statement}
+use Rattle.beats.proofs.split.counts_of.Tie as tie
 
 returns : tie.Need-returns
 returns c =

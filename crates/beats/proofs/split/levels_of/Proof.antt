@@ -1,4 +1,4 @@
--- `beats::parts::levels_of` meets its contract.
+-- `beats::split::levels_of` meets its contract.
 use Prim.Native.Nat.{_-_, _≤_}
 use mathlib.Core.Path.{_≡_, refl}
 use native.Mathlib.Omega.{arith}
@@ -7,8 +7,8 @@ use lib.ListN.{getD, length}
 use Rattle.beats.specs.Parts.{levelOf, outputOf}
 use Rattle.beats.proofs.Loops.{each-to, one-place-more, filled}
 use Rattle.cores.proofs.Three.{unmapped}
-use Rattle.beats.proofs.parts.levels_of.Statement.{statement}
-use Rattle.beats.proofs.parts.levels_of.Tie as tie
+use Rattle.beats.proofs.split.levels_of.Statement.{statement}
+use Rattle.beats.proofs.split.levels_of.Tie as tie
 
 abbrev Inv-loop : tie.InvT-loop
 Inv-loop outputs levels₀ k₀ levels k = (k ≤ 10) × (levels ≡ each-to (λ j y. levelOf (getD outputs j (outputOf 0))) k 0 levels₀)

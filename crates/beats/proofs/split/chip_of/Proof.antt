@@ -1,7 +1,7 @@
--- `beats::parts::chip_of` meets its contract.
+-- `beats::split::chip_of` meets its contract.
 use borrow.Author.Needs.{needs}
-use Rattle.beats.proofs.parts.chip_of.Statement.{statement}
-use Rattle.beats.proofs.parts.chip_of.Tie as tie
+use Rattle.beats.proofs.split.chip_of.Statement.{statement}
+use Rattle.beats.proofs.split.chip_of.Tie as tie
 
 returns : tie.Need-returns
 returns c =
