@@ -14,7 +14,3 @@ pub mod Ranges
 pub mod Reached
 pub mod Outcome
 pub mod Exactly
-pub mod Defined
-pub mod SheetText
-pub mod LineWalk
-pub mod LineAnswers

@@ -5,4 +5,3 @@ pub mod Writing
 pub mod Answers
 pub mod Conditions
 pub mod Theorems
-pub mod Walks

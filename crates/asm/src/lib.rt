@@ -1,16 +1,6 @@
-// The sheets of light programs: the assembler reads one, the disassembler writes one. The rules are
-// document 01's, "The sheet" and its numbers 9, 11 to 13 and 20 to 24; specs/ has them.
-mod assembler;
-mod disassembler;
-mod places;
-mod plans;
-mod refusals;
-mod undefined;
-mod words;
-
-pub use assembler::assemble;
-pub use disassembler::disassemble;
-use plan::EnginePlan;
+// The sheets of light programs. The rules are document 01's, "The sheet" and its numbers 9, 11 to 13 and
+// 20 to 24; specs/ has them. The functions stand in `assembler`, which reads a sheet, and
+// `disassembler`, which writes one.
 use plan::Plan;
 use plan::Verdict;
 
@@ -36,16 +26,4 @@ pub enum Disassembled {
     Refused(Verdict),
     // the lent bytes are fewer than the text's
     TooShort,
-}
-
-// An engine's plan and the place after its line, or the sheet's refusal.
-enum PlanLine {
-    Plan { plan: EnginePlan, next: usize },
-    Refused(Assembled),
-}
-
-// A word, or the sheet's refusal.
-enum WordRead {
-    Word(u16),
-    Refused(Assembled),
 }

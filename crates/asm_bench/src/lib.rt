@@ -37,5 +37,5 @@ pub extern "C" fn sheet_read(text: &[u8], image: &mut [u16]) -> u64
     ensures { λ r. ⌜ r ≡ digestOf (assembleOf LP5523 (length (now (image .entry))) (now (text .entry))) ⌝ }
     ensures { λ r. ⌜ now (image .exit) ≡ imageAfter (assembleOf LP5523 (length (now (image .entry))) (now (text .entry))) (now (image .entry)) ⌝ }
 {
-    digest(asm::assemble(text, image))
+    digest(assembler::assemble(text, image))
 }

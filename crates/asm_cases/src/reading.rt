@@ -47,7 +47,7 @@ fn called(text: &[u8], lent: &mut [u16], words: usize) -> Assembled {
     if words > lent.len() {
         return Assembled::WrongLength;
     }
-    asm::assemble(text, &mut lent[..words])
+    assembler::assemble(text, &mut lent[..words])
 }
 
 // Reads the sheet; the program changes only where it was read.

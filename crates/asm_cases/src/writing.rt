@@ -25,7 +25,7 @@ fn called(s: State, image: &[u16], out: &mut [u8]) -> Disassembled {
     if room > out.len() {
         return Disassembled::TooShort;
     }
-    asm::disassemble(s.plan, &image[..words], &mut out[..room])
+    disassembler::disassemble(s.plan, &image[..words], &mut out[..room])
 }
 
 // Writes the program, and compares the text with the sheet.

@@ -6,7 +6,7 @@ use Rattle.asm_bench.proofs.sheet_read.Statement.{statement}
 use Rattle.asm_bench.proofs.sheet_read.Tie as tie
 use Rattle.asm_bench.proofs.sheet_read.Reads as reads
 use Rattle.asm_bench.proofs.sheet_read.Lts as lts
-use Rattle.asm.proofs.assemble.Reads as assemble-reads
+use Rattle.assembler.proofs.assemble.Reads as assemble-reads
 use Rattle.asm_bench.proofs.digest.Reads as digest-reads
 
 -- src/lib.rt:40:12

@@ -1,0 +1,2 @@
+mod LineWalk
+mod LineAnswers

@@ -1,0 +1,23 @@
+-- `assembler::refusals::refusal_at` meets its contract.
+use Prim.Native.Nat.{ℕ}
+use mathlib.Core.Logic.{⊎-elim}
+use mathlib.Core.Path.{sym, ap}
+use Rattle.asm.specs.Reading.{refused-at}
+use Rattle.assembler.proofs.refusals.refusal_at.Statement.{statement}
+use Rattle.assembler.proofs.refusals.refusal_at.Tie as tie
+
+-- the last of the three, where it is neither of the others
+returns-3 : tie.Need-returns-3
+returns-3 c ws =
+    let s = c .before in
+    let others = c .match .rest in
+    ap (λ (n : ℕ). refused-at n (s .args .line))
+    (⊎-elim (λ e. absurd (others .0 .1 e)) (⊎-elim (λ e. absurd (others .1 e)) sym) (s .pre))
+
+pub refusal-at-spec : {M : Type 1} → statement M
+refusal-at-spec =
+    tie.close
+    (tie.spec
+    (λ c ws. ap (λ (n : ℕ). refused-at n (c .before .args .line)) (sym (c .match .keys1)))
+    (λ c ws. ap (λ (n : ℕ). refused-at n (c .before .args .line)) (sym (c .match .keys2)))
+    returns-3)

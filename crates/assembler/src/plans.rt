@@ -1,0 +1,61 @@
+// The plan lines of a sheet, read.
+use super::refusals::refusal_at;
+use super::refusals::unended;
+use crate::PlanLine;
+use grammar::Form;
+use grammar::LineRead;
+use grammar::Values;
+use plan::EnginePlan;
+use word::Address;
+ghost use mathlib.Core.List.{List, _∷_};
+ghost use mathlib.Core.Path.{_≡_};
+ghost use Prim.Native.Nat.{ℕ, _+_, _≤_};
+ghost use lib.ListN.{length};
+ghost use Rattle.word.specs.Profile.{LP5523};
+ghost use Rattle.plan.specs.declared.EnginePlan.{EnginePlan};
+ghost use Rattle.grammar.specs.declared.Form.{Form};
+ghost use Rattle.grammar.specs.Tables.{listOf};
+ghost use Rattle.asm.specs.PlanLines.{enginePlanOf};
+ghost use Rattle.asm.specs.Reading.{readPlans};
+ghost use Rattle.assembler.specs.Walks.{linesFrom, thenPlans, Within};
+
+const LINE_FEED: u8 = 10;
+
+fn engine_plan(v: Values) -> EnginePlan
+    ensures { λ r. ⌜ r ≡ enginePlanOf (listOf v) ⌝ }
+{
+    if v.b != 0 {
+        return EnginePlan::Unused;
+    }
+    let first = Address(v.c);
+    let last = Address(v.d);
+    if v.e != 0 {
+        return EnginePlan::Code { first, last };
+    }
+    EnginePlan::CodeAndTable {
+        first,
+        last,
+        top: Address(v.f),
+        bottom: Address(v.g),
+    }
+}
+
+// The plan line that begins at `at`, with its number in the sheet.
+pub(super) fn read_plan(text: &[u8], at: usize, form: Form, number: u16) -> PlanLine
+    requires { ⌜ at ≤ length (now text) ⌝ }
+    ensures { λ r. ⌜ ((fs : List Form) (qs : List EnginePlan) (ws : List ℕ) → thenPlans r (now (text .entry)) number fs qs ws ≡ readPlans LP5523 (form ∷ fs) number qs (linesFrom at (now (text .entry)))) ⌝ }
+    ensures { λ r. ⌜ Within r (now (text .entry)) ⌝ }
+{
+    let line = text_pairs::part_at(text, at, LINE_FEED);
+    let end = at + line.len();
+    if end >= text.len() {
+        return PlanLine::Refused(unended(line, number));
+    }
+    match grammar::read_line(line, form) {
+        LineRead::Read(v) => PlanLine::Plan {
+            plan: engine_plan(v),
+            next: end + 1,
+        },
+        LineRead::Refused(k) => PlanLine::Refused(refusal_at(k, number)),
+    }
+}

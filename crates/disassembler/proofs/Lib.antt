@@ -1,0 +1,2 @@
+mod SheetText
+mod Defined

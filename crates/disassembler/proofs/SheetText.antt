@@ -1,0 +1,134 @@
+-- The text of a sheet, line by line, and what the writer answers by its length.
+use Prim.Native.Nat.{ℕ, _+_, _≤_, _<_}
+use mathlib.Core.Bool.{Bool, true, false, cond}
+use mathlib.Core.List.{List, [], _∷_, _++_, append-assoc}
+use mathlib.Core.Path.{_≡_, refl, sym, ap, _∙_}
+use native.Mathlib.Numerals.{add-one}
+use borrow.Author.Tests.{le-leb, lt-leb}
+use types.Run.{OneOf, miss}
+use denote.Enum.Declared.{tagOf}
+use lib.ListN.{length, getD, drop, drop-of-length-le}
+use lib.Seq.{drop-cons}
+use Rattle.text.specs.Bytes.{lineFeed, space, join}
+use Rattle.word.specs.Profile.{Profile, LP5523}
+use Rattle.plan.specs.declared.EnginePlan.{EnginePlan}
+use Rattle.plan.specs.declared.EnginePlan.the-variants.{Unused, Code, CodeAndTable}
+use Rattle.plan.specs.declared.Plan.{Plan}
+use Rattle.plan.specs.declared.Verdict.{Verdict}
+use Rattle.plan.specs.declared.Verdict.the-variants.{Accept}
+use Rattle.plan.specs.Ranges.{enginePlans}
+use Rattle.plan.specs.Tests.{inCode}
+use Rattle.plan.specs.Passes.{isAccept}
+use Rattle.grammar.specs.declared.Form.{Form}
+use Rattle.grammar.specs.declared.Form.the-variants.{Op, Engine1, Engine2, Engine3, Row, Spare}
+use Rattle.grammar.proofs.Form.{the-type}
+use Rattle.grammar.specs.Form.{continued, writeForm}
+use Rattle.grammar.specs.Grammar.{planForm, wordForm, writeParts, writeLine}
+use Rattle.grammar.specs.Tables.{valuesOf, listOf}
+use Rattle.op_lines.specs.Lines.{over}
+use Rattle.asm.specs.declared.Disassembled.the-variants.{Length, Refused, TooShort}
+use Rattle.asm.specs.Places.{inTable, anyHas, formAt}
+use Rattle.asm.specs.PlanLines.{planValues}
+use Rattle.asm.specs.Writing.{wordLine, planLines, wordLines, ended, sheetOf, writableOf, disassembleOf, bytesAfter}
+use Rattle.disassembler.specs.Walks.{IsPlanLine, IsWordLine}
+
+-- ---- lines
+
+-- values past those that a plan has are not written
+plan-parts : (j i : ℕ) (q : EnginePlan) → writeForm (planForm LP5523 j) (listOf (valuesOf (planValues i q))) ≡ writeForm (planForm LP5523 j) (planValues i q)
+unfolding writeForm continued planForm listOf valuesOf
+plan-parts j i Unused = refl
+plan-parts j i (Code f l) = refl
+plan-parts j i (CodeAndTable f l t b) = refl
+
+pub plan-line : (f : Form) (i : ℕ) (q : EnginePlan) → IsPlanLine f → writeLine LP5523 f (listOf (valuesOf (planValues i q))) ≡ writeLine LP5523 f (planValues i q)
+unfolding writeLine writeParts
+plan-line Op i q h = absurd h
+plan-line Engine1 i q h = ap (join space) (plan-parts 1 i q)
+plan-line Engine2 i q h = ap (join space) (plan-parts 2 i q)
+plan-line Engine3 i q h = ap (join space) (plan-parts 3 i q)
+plan-line Row i q h = absurd h
+plan-line Spare i q h = absurd h
+
+-- nor those past a word
+pub plain-line : (f : Form) (w : ℕ) → OneOf (1 ∷ 2 ∷ 3 ∷ 4 ∷ 5 ∷ []) (tagOf the-type f) → IsWordLine f
+    → writeLine LP5523 f (w ∷ 0 ∷ 0 ∷ 0 ∷ 0 ∷ 0 ∷ 0 ∷ []) ≡ wordLine LP5523 f w
+unfolding writeLine writeParts writeForm continued wordForm
+plain-line Op w h k = absurd (miss (1 ∷ 2 ∷ 3 ∷ 4 ∷ 5 ∷ []) 0 tt h)
+plain-line Engine1 w h k = absurd k
+plain-line Engine2 w h k = absurd k
+plain-line Engine3 w h k = absurd k
+plain-line Row w h k = refl
+plain-line Spare w h k = refl
+
+-- at each address stands a word
+pub word-at : (P : Profile) (p : Plan) (a : ℕ) → IsWordLine (formAt P p a)
+unfolding formAt
+word-at P p a = go (anyHas inCode (enginePlans P p) a) (anyHas inTable (enginePlans P p) a)
+  where
+    go : (b c : Bool) → IsWordLine (cond b Op (cond c Row Spare))
+    go true c = tt
+    go false true = tt
+    go false false = tt
+
+-- ---- lines in a row
+
+pub ended-line : (l : List ℕ) (ls : List (List ℕ)) → (l ++ (lineFeed ∷ [])) ++ ended ls ≡ ended (l ∷ ls)
+unfolding ended
+ended-line l ls = append-assoc l (lineFeed ∷ []) (ended ls)
+
+module _ (P : Profile) (p : Plan) (image : List ℕ) (k : ℕ) where
+  -- the text of the words from address k on
+  abbrev pub wordsFrom : List ℕ
+  wordsFrom = ended (wordLines P p k (drop k image))
+
+pub words-step : (P : Profile) (p : Plan) (image : List ℕ) (k : ℕ) → k < length image
+    → wordsFrom P p image k ≡ (wordLine P (formAt P p k) (getD image k 0) ++ (lineFeed ∷ [])) ++ wordsFrom P p image (k + 1)
+unfolding wordLines
+words-step P p image k h =
+    ap (λ (ws : List ℕ). ended (wordLines P p k ws)) (drop-cons image k 0 h ∙ ap (λ (n : ℕ). getD image k 0 ∷ drop n image) (sym (add-one k)))
+    ∙ sym (ended-line (wordLine P (formAt P p k) (getD image k 0)) (wordLines P p (k + 1) (drop (k + 1) image)))
+
+pub words-end : (P : Profile) (p : Plan) (image : List ℕ) (k : ℕ) → length image ≤ k → wordsFrom P p image k ≡ []
+unfolding ended wordLines
+words-end P p image k h = ap (λ (ws : List ℕ). ended (wordLines P p k ws)) (drop-of-length-le image h)
+
+-- the three plan lines, then the words
+pub sheet-text : (p : Plan) (image : List ℕ)
+    → (writeLine LP5523 Engine1 (planValues 1 (p .engine1)) ++ (lineFeed ∷ []))
+    ++ ((writeLine LP5523 Engine2 (planValues 2 (p .engine2)) ++ (lineFeed ∷ []))
+    ++ ((writeLine LP5523 Engine3 (planValues 3 (p .engine3)) ++ (lineFeed ∷ [])) ++ ended (wordLines LP5523 p 0 image)))
+    ≡ sheetOf LP5523 p image
+unfolding sheetOf planLines
+sheet-text p image =
+    let l1 = writeLine LP5523 Engine1 (planValues 1 (p .engine1)) in
+    let l2 = writeLine LP5523 Engine2 (planValues 2 (p .engine2)) in
+    let l3 = writeLine LP5523 Engine3 (planValues 3 (p .engine3)) in
+    let ws = wordLines LP5523 p 0 image in
+    ap (λ (r : List ℕ). (l1 ++ (lineFeed ∷ [])) ++ ((l2 ++ (lineFeed ∷ [])) ++ r)) (ended-line l3 ws)
+    ∙ ap (λ (r : List ℕ). (l1 ++ (lineFeed ∷ [])) ++ r) (ended-line l2 (l3 ∷ ws))
+    ∙ ended-line l1 (l2 ∷ l3 ∷ ws)
+
+-- ---- the writer's answers, and the lent bytes afterwards
+
+module _ (P : Profile) (p : Plan) (image old : List ℕ) where
+  pub refused : {v : Verdict} → v ≡ writableOf P p image → isAccept v ≡ false
+      → (Refused v ≡ disassembleOf P p image (length old)) × (old ≡ bytesAfter P p image old)
+  unfolding disassembleOf bytesAfter
+  refused is h = let e : isAccept (writableOf P p image) ≡ false = ap isAccept (sym is) ∙ h in (rw e (ap Refused is), rw e refl)
+
+  pub no-room : writableOf P p image ≡ Accept → length old < length (sheetOf P p image)
+      → (TooShort ≡ disassembleOf P p image (length old)) × (old ≡ bytesAfter P p image old)
+  unfolding disassembleOf bytesAfter
+  no-room h l =
+      let e : isAccept (writableOf P p image) ≡ true = ap isAccept h in
+      let f = lt-leb (length (sheetOf P p image)) (length old) l in
+      (rw (e, f) refl, rw (e, f) refl)
+
+  pub with-room : writableOf P p image ≡ Accept → length (sheetOf P p image) ≤ length old
+      → (Length (length (sheetOf P p image)) ≡ disassembleOf P p image (length old)) × (over (sheetOf P p image) old ≡ bytesAfter P p image old)
+  unfolding disassembleOf bytesAfter
+  with-room h l =
+      let e : isAccept (writableOf P p image) ≡ true = ap isAccept h in
+      let f = le-leb (length (sheetOf P p image)) (length old) l in
+      (rw (e, f) refl, rw (e, f) refl)

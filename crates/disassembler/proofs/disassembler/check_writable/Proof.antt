@@ -1,0 +1,27 @@
+-- `disassembler::disassembler::check_writable` meets its contract: the order of 01 is the order of the calls.
+use mathlib.Core.Path.{sym, ap, _∙_}
+use borrow.Author.Needs.{needs}
+use Rattle.plan.specs.Passes.{isAccept}
+use Rattle.plan.proofs.Laws.{not-accept, stops, goes-on}
+use Rattle.disassembler.proofs.Defined.{ranges-in-order, not-writable, writable}
+use Rattle.disassembler.proofs.disassembler.check_writable.Statement.{statement}
+use Rattle.disassembler.proofs.disassembler.check_writable.Tie as tie
+
+pub check-writable-spec : {M : Type 1} → statement M
+check-writable-spec =
+    tie.close
+    (tie.spec
+    (λ c. not-writable _ _ (c .if1 .taken))
+    (search needs)
+    (search needs)
+    (λ c.
+    writable _ _ (c .before .before .if1 .left)
+    (stops _ (c .before .check-ranges .ensures) (not-accept (c .before .check-ranges .result) (c .match .keys2))))
+    (λ c κs.
+    let c2 = c .before .before in
+    let o = ranges-in-order _ (sym (c2 .check-ranges .ensures) ∙ c .enum-told .given .1) in
+    (c2 .before .if1 .left, o .0, o .1, o .2))
+    (λ c.
+    let c3 = c .before .before .before in
+    writable _ _ (c3 .before .if1 .left)
+    (goes-on (c3 .check-ranges .ensures) (ap isAccept (c .before .enum-told .given .1)) (c .check-defined .ensures))))

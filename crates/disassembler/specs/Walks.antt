@@ -1,0 +1,48 @@
+-- How the functions' steps make up a sheet. That together they are its writing is proved in proofs/; nothing here has to be believed.
+use Prim.Native.Nat.{ℕ, _+_, _-_}
+use mathlib.Core.Bool.{cond, not}
+use mathlib.Core.List.{List}
+use Rattle.word.specs.Profile.{Profile}
+use Rattle.word.specs.Decode.{addressAt}
+use Rattle.word.specs.Classes.{flowOf}
+use Rattle.plan.specs.declared.EnginePlan.{EnginePlan}
+use Rattle.plan.specs.declared.EnginePlan.the-variants.{Unused, Code, CodeAndTable}
+use Rattle.plan.specs.declared.Plan.{Plan}
+use Rattle.plan.specs.declared.Verdict.{Verdict}
+use Rattle.plan.specs.declared.Verdict.the-variants.{Accept, UndefinedWord}
+use Rattle.plan.specs.Ranges.{planAt}
+use Rattle.plan.specs.Conditions.{wordAt}
+use Rattle.plan.specs.Tests.{isFault}
+use Rattle.plan.specs.Passes.{orElse, scan}
+use Rattle.grammar.specs.declared.Form.{Form}
+use Rattle.grammar.specs.declared.Form.the-variants.{Op, Engine1, Engine2, Engine3, Row, Spare}
+
+-- The forms of plan lines and of word lines.
+abbrev pub IsPlanLine : Form → Type 0
+IsPlanLine Op = ⊥
+IsPlanLine Engine1 = Unit {0}
+IsPlanLine Engine2 = Unit {0}
+IsPlanLine Engine3 = Unit {0}
+IsPlanLine Row = ⊥
+IsPlanLine Spare = ⊥
+
+abbrev pub IsWordLine : Form → Type 0
+IsWordLine Op = Unit {0}
+IsWordLine Engine1 = ⊥
+IsWordLine Engine2 = ⊥
+IsWordLine Engine3 = ⊥
+IsWordLine Row = Unit {0}
+IsWordLine Spare = Unit {0}
+
+-- The first undefined word of n from address a upward, of an engine, and of the three.
+unfoldable pub definedFrom : Profile → ℕ → List ℕ → ℕ → ℕ → Verdict
+definedFrom P i image = scan (λ a. cond (not (isFault (flowOf (wordAt P image a)))) Accept (UndefinedWord i (addressAt a)))
+
+unfoldable pub engineDefined : Profile → ℕ → EnginePlan → List ℕ → Verdict
+engineDefined P i Unused image = Accept
+engineDefined P i (Code f l) image = definedFrom P i image (f .0) (l .0 + 1 - f .0)
+engineDefined P i (CodeAndTable f l t b) image = definedFrom P i image (f .0) (l .0 + 1 - f .0)
+
+unfoldable pub planDefined : Profile → Plan → List ℕ → Verdict
+planDefined P p image =
+    orElse (engineDefined P 1 (planAt P p 1) image) (orElse (engineDefined P 2 (planAt P p 2) image) (engineDefined P 3 (planAt P p 3) image))

@@ -1,0 +1,77 @@
+// What stands at an address by a plan: code, a table row, or neither.
+use grammar::Form;
+use plan::EnginePlan;
+use plan::Plan;
+use word::Address;
+ghost use mathlib.Core.Bool.{false, _||_};
+ghost use mathlib.Core.Path.{_≡_};
+ghost use Rattle.word.specs.Profile.{LP5523};
+ghost use Rattle.plan.specs.Tests.{inRange, inCode};
+ghost use Rattle.asm.specs.Places.{inTable, formAt};
+
+fn in_range(first: Address, last: Address, a: u16) -> bool
+    ensures { λ r. ⌜ r ≡ inRange first last a ⌝ }
+{
+    if a < first.0 {
+        return false;
+    }
+    a <= last.0
+}
+
+fn in_code(q: EnginePlan, a: u16) -> bool
+    ensures { λ r. ⌜ r ≡ inCode q a ⌝ }
+{
+    match q {
+        EnginePlan::Unused => false,
+        EnginePlan::Code { first, last } => in_range(first, last, a),
+        EnginePlan::CodeAndTable {
+            first,
+            last,
+            top: _,
+            bottom: _,
+        } => in_range(first, last, a),
+    }
+}
+
+fn in_table(q: EnginePlan, a: u16) -> bool
+    ensures { λ r. ⌜ r ≡ inTable q a ⌝ }
+{
+    match q {
+        EnginePlan::Unused => false,
+        EnginePlan::Code { first: _, last: _ } => false,
+        EnginePlan::CodeAndTable {
+            first: _,
+            last: _,
+            top,
+            bottom,
+        } => in_range(top, bottom, a),
+    }
+}
+
+fn any(a: bool, b: bool, c: bool) -> bool
+    ensures { λ r. ⌜ r ≡ (a || (b || (c || false))) ⌝ }
+{
+    if a {
+        return true;
+    }
+    if b {
+        return true;
+    }
+    c
+}
+
+// An address in both code and table is code.
+pub fn form_at(plan: Plan, a: u16) -> Form
+    ensures { λ r. ⌜ r ≡ formAt LP5523 plan a ⌝ }
+{
+    let q1 = plan.engine1;
+    let q2 = plan.engine2;
+    let q3 = plan.engine3;
+    if any(in_code(q1, a), in_code(q2, a), in_code(q3, a)) {
+        return Form::Op;
+    }
+    if any(in_table(q1, a), in_table(q2, a), in_table(q3, a)) {
+        return Form::Row;
+    }
+    Form::Spare
+}
