@@ -51,7 +51,7 @@ pub(super) fn read_plan(text: &[u8], at: usize, form: Form, number: u16) -> Plan
     if end >= text.len() {
         return PlanLine::Refused(unended(line, number));
     }
-    match grammar::read_line(line, form) {
+    match line_reader::read_line(line, form) {
         LineRead::Read(v) => PlanLine::Plan {
             plan: engine_plan(v),
             next: end + 1,

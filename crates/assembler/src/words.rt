@@ -28,7 +28,7 @@ fn op_word(line: &[u8], number: u16) -> WordRead
 fn plain_word(line: &[u8], form: Form, number: u16) -> WordRead
     ensures { λ r. ⌜ ((f : ℕ → Sheet) (ws : List ℕ) → thenWord r f ws ≡ withWord (plainWord (readLine LP5523 form (now (line .entry)))) number f) ⌝ }
 {
-    match grammar::read_line(line, form) {
+    match line_reader::read_line(line, form) {
         LineRead::Read(v) => WordRead::Word(v.a),
         LineRead::Refused(k) => WordRead::Refused(refusal_at(k, number)),
     }

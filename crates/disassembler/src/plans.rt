@@ -51,6 +51,6 @@ pub(super) fn put_plan(out: &mut [u8], at: usize, form: Form, engine: u16, q: En
     requires { ⌜ IsPlanLine form ⌝ }
     ensures { λ r. ⌜ Put (now (out .entry)) (now (out .exit)) (writeLine LP5523 form (planValues engine q) ++ (lineFeed ∷ [])) at r ⌝ }
 {
-    let next = grammar::put_line(out, at, form, plan_values(engine, q));
+    let next = line_writer::put_line(out, at, form, plan_values(engine, q));
     text_writing::put_byte(out, next, LINE_FEED)
 }

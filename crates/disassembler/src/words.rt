@@ -32,7 +32,7 @@ fn put_word(out: &mut [u8], at: usize, form: Form, code: u16) -> usize
         f: 0,
         g: 0,
     };
-    let end = grammar::put_line(out, at, form, v);
+    let end = line_writer::put_line(out, at, form, v);
     text_writing::put_byte(out, end, LINE_FEED)
 }
 

@@ -14,6 +14,4 @@ pub mod Low
 pub mod Spots
 pub mod Conform
 pub mod Exactly
-pub mod Written
 pub mod Ranges
-pub mod Walk

@@ -18,10 +18,10 @@ use Rattle.text.proofs.Numerals.{read-parts}
 use Rattle.word.specs.Field.{Range, inside, _to_, upto}
 use Rattle.grammar.specs.declared.Value.{Value}
 use Rattle.grammar.specs.declared.Value.the-variants.{Number, Malformed, Outside}
-use Rattle.grammar.specs.Form.{Kind, number, word, decision, held, readWord, readValue}
-use Rattle.grammar.specs.Tables.{kindAt, rangesIn, rangesAt, stopsAt}
+use Rattle.grammar.specs.Form.{Kind, number, word, decision, Pair, held, readWord, readValue}
+use Rattle.grammar.specs.Tables.{kindAt, rangesIn, rangesAt, pairAt, stopsAt}
 use Rattle.grammar.proofs.Value as values
-use Rattle.grammar.proofs.Tables.{low, high, alsoLow, alsoHigh, rangeTable, range-again, wordTable, kind-is, answers-are}
+use Rattle.grammar.proofs.Tables.{low, high, alsoLow, alsoHigh, rangeTable, range-again, wordTable, kind-is, answers-are, pairKind, pair-is, pair-kinds}
 
 -- ---- the ranges of a kind
 
@@ -139,7 +139,7 @@ module _ (k : ℕ) (v : List ℕ) where
 -- ---- where a yes or no lets no pair follow
 
 -- no other kind stops a line
-pub goes-on : (k : ℕ) (v : Value) → k < 16 → (k ≡ 15 → ⊥) → stopsAt (kindAt k) v ≡ false
+goes-on : (k : ℕ) (v : Value) → k < 16 → (k ≡ 15 → ⊥) → stopsAt (kindAt k) v ≡ false
 unfolding stopsAt
 goes-on k v h n = go (ltb k 12) refl
   where
@@ -149,10 +149,21 @@ goes-on k v h n = go (ltb k 12) refl
         ap (λ (x : Kind). stopsAt x v) (kind-words k (ltb-false k 12 q) h)
         ∙ ap (λ (t : Bool). stopsAt (cond t (word (wordTable (k - 12))) decision) v) (lt-ltb k 15 (omega arith))
 
-pub decision-is : kindAt 15 ≡ decision
+decision-is : kindAt 15 ≡ decision
 decision-is = kind-is 15 (omega arith)
 
 -- what is no number stops it
 pub stops-other : (v : Value) → OneOf (1 ∷ 2 ∷ []) (tagOf values.the-type v) → stopsAt decision v ≡ true
 unfolding stopsAt
 stops-other = other-value (λ (v : Value). stopsAt decision v ≡ true) refl refl
+
+-- by the kind of a pair, from the table
+stops-by : (k : ℕ) (v : Value) → k < 71 → stopsAt (pairAt k .kind) v ≡ stopsAt (kindAt (getD pairKind k 0)) v
+stops-by k v h = ap (λ (p : Pair). stopsAt (p .kind) v) (pair-is k h)
+
+pub stops-decision : (k : ℕ) (v : Value) → k < 71 → getD pairKind k 0 ≡ 15 → stopsAt (pairAt k .kind) v ≡ stopsAt decision v
+stops-decision k v h e = stops-by k v h ∙ ap (λ (x : Kind). stopsAt x v) (ap kindAt e ∙ decision-is)
+
+-- a pair of another kind lets the next follow
+pub stops-not : (k : ℕ) (v : Value) → k < 71 → (getD pairKind k 0 ≡ 15 → ⊥) → stopsAt (pairAt k .kind) v ≡ false
+stops-not k v h n = stops-by k v h ∙ goes-on (getD pairKind k 0) v (pair-kinds k h) n

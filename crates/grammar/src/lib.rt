@@ -1,15 +1,20 @@
-// The lines of a sheet, read and written by tables. The grammar is document 01's: specs/Grammar.antt.
-mod kinds;
-mod names;
-mod pairs;
-mod reading;
-mod sequence;
-mod shapes;
-mod words;
-mod writing;
+// The lines of a sheet. The grammar is document 01's: specs/Grammar.antt. The functions stand in
+// `line_reader` and `line_writer`, which go by the tables.
+mod entries;
 
-pub use reading::read_line;
-pub use writing::put_line;
+pub use entries::ALSO_HIGH;
+pub use entries::ALSO_LOW;
+pub use entries::DECISION;
+pub use entries::FORM_AT;
+pub use entries::HIGH;
+pub use entries::LOW;
+pub use entries::NAME_AT;
+pub use entries::NAMES;
+pub use entries::NUMBERS;
+pub use entries::PAIR_KEY;
+pub use entries::PAIR_KIND;
+pub use entries::WORD_COUNT;
+pub use entries::WORD_FIRST;
 
 // The forms of a sheet's lines.
 pub enum Form {

@@ -51,7 +51,7 @@ fn code_of(v: Values) -> WordLine
 pub fn assemble_line(line: &[u8]) -> WordLine
     ensures { λ r. ⌜ answerOf r ≡ assembleLineOf LP5523 (now (line .entry)) ⌝ }
 {
-    match grammar::read_line(line, Form::Op) {
+    match line_reader::read_line(line, Form::Op) {
         LineRead::Read(v) => code_of(v),
         LineRead::Refused(k) => refused(k),
     }

@@ -26,7 +26,7 @@ pub fn put_op_line(out: &mut [u8], at: usize, code: u16) -> usize
         f: 0,
         g: 0,
     };
-    grammar::put_line(out, at, Form::Op, v)
+    line_writer::put_line(out, at, Form::Op, v)
 }
 
 // Whether a word is the undefined one, for which the encoder gives 13.

@@ -8,7 +8,7 @@ use Rattle.text.specs.Bytes.{lineFeed}
 use Rattle.text.proofs.Puts.{put-is, put-length, SoFar, so-far-none, so-far-more, so-far-all}
 use Rattle.word.specs.Profile.{LP5523}
 use Rattle.grammar.specs.declared.Form.{Form}
-use Rattle.grammar.proofs.Written.{so-far-is}
+use Rattle.line_writer.proofs.Written.{so-far-is}
 use Rattle.asm.specs.Places.{formAt}
 use Rattle.asm.specs.Writing.{wordLine}
 use Rattle.disassembler.specs.Walks.{IsWordLine}

@@ -1,0 +1,55 @@
+-- `line_reader::names::value_after` meets its contract.
+use Prim.Native.Nat.{ℕ}
+use mathlib.Core.List.{List}
+use mathlib.Core.Path.{sym, ap, _∙_}
+use native.Mathlib.Omega.{arith}
+use borrow.Author.Needs.{needs}
+use Rattle.text.specs.Bytes.{valueOf}
+use Rattle.grammar.proofs.Tables.{nameBytes, nameAt, name-starts, name-ends, name-is}
+use Rattle.line_reader.proofs.names.value_after.Statement.{statement}
+use Rattle.line_reader.proofs.names.value_after.Tie as tie
+
+cast-a : tie.Need-cast-a
+unfolding nameAt
+cast-a c =
+    let s = c .before in
+    omega (arith, name-starts (s .args .k) (s .pre), name-ends (s .args .k) (s .pre))
+
+cast-e : tie.Need-cast-e
+unfolding nameAt
+cast-e c = omega (arith, name-ends (c .before .args .k) (c .before .pre))
+
+sub-value-of : tie.Need-sub-value-of
+unfolding nameAt
+sub-value-of c = name-starts (c .before .args .k) (c .before .pre)
+
+part-value-of-start : tie.Need-part-value-of-start
+unfolding nameAt
+part-value-of-start c = name-starts (c .before .before .args .k) (c .before .before .pre)
+
+part-value-of-end : tie.Need-part-value-of-end
+unfolding nameAt
+part-value-of-end c = name-ends (c .before .before .args .k) (c .before .before .pre)
+
+returns : tie.Need-returns
+unfolding nameAt nameBytes
+returns c =
+    let s = c .before .before .before .before in
+    c .value-of .ensures ∙ ap (λ (k : List ℕ). valueOf k (s .args .pair .now)) (sym (name-is (s .args .k) (s .pre)))
+
+pub value-after-spec : {M : Type 1} → statement M
+value-after-spec =
+    tie.close
+    (tie.spec
+    (search needs)
+    (search needs)
+    cast-a
+    (search needs)
+    (search needs)
+    (search needs)
+    cast-e
+    sub-value-of
+    part-value-of-start
+    part-value-of-end
+    (search needs)
+    returns)

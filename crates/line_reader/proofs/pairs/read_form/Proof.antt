@@ -1,0 +1,42 @@
+-- `line_reader::pairs::read_form` meets its contract.
+use Prim.Native.Nat.{_+_}
+use mathlib.Core.List.{List}
+use mathlib.Core.Path.{sym, ap, _∙_}
+use native.Mathlib.Omega.{arith}
+use borrow.Author.Needs.{needs}
+use Rattle.grammar.specs.Form.{Pair, readForm}
+use Rattle.grammar.specs.Tables.{partsFrom, lineReadOf}
+use Rattle.grammar.proofs.Tables.{formAt, form-is, form-ends}
+use Rattle.line_reader.proofs.pairs.read_form.Statement.{statement}
+use Rattle.line_reader.proofs.pairs.read_form.Tie as tie
+
+cast-read-pairs : tie.Need-cast-read-pairs
+unfolding formAt
+cast-read-pairs c = omega (arith, form-ends (c .before .args .form) (omega (arith, c .before .pre)))
+
+cast-read-pairs-2 : tie.Need-cast-read-pairs-2
+unfolding formAt
+cast-read-pairs-2 c = omega (arith, form-ends (c .before .args .form + 1) (omega (arith, c .before .pre)))
+
+read-pairs-requires : tie.Need-read-pairs-requires
+unfolding formAt
+read-pairs-requires c κs = form-ends (c .before .args .form + 1) (omega (arith, c .before .pre))
+
+returns : tie.Need-returns
+unfolding formAt
+returns c =
+    let s = c .before .before in
+    let ps = partsFrom (s .args .at) (s .args .line .now) in
+    c .read-pairs .ensures ∙ ap (λ (fs : List Pair). lineReadOf (readForm fs ps)) (sym (form-is (s .args .form) (s .pre)))
+
+pub read-form-spec : {M : Type 1} → statement M
+read-form-spec =
+    tie.close
+    (tie.spec
+    (search needs)
+    cast-read-pairs
+    (search needs)
+    (search needs)
+    cast-read-pairs-2
+    read-pairs-requires
+    returns)

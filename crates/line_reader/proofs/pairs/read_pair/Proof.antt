@@ -1,0 +1,46 @@
+-- `line_reader::pairs::read_pair` meets its contract.
+use mathlib.Core.Path.{sym, ap, _∙_}
+use native.Mathlib.Omega.{arith}
+use borrow.Author.Needs.{needs}
+use lib.ListN.{getD}
+use Rattle.grammar.specs.Form.{Pair, readPair, readValue}
+use Rattle.grammar.specs.Tables.{kindAt}
+use Rattle.grammar.proofs.Tables.{pairKey, pairKind, pair-is, pair-keys, pair-kinds}
+use Rattle.line_reader.proofs.pairs.read_pair.Statement.{statement}
+use Rattle.line_reader.proofs.pairs.read_pair.Tie as tie
+
+cast-key : tie.Need-cast-key
+unfolding pairKey
+cast-key c = omega (arith, pair-keys (c .before .args .pair) (c .before .pre))
+
+cast-kind : tie.Need-cast-kind
+unfolding pairKind
+cast-kind c = omega (arith, pair-kinds (c .before .args .pair) (c .before .pre))
+
+value-after-requires : tie.Need-value-after-requires
+unfolding pairKey
+value-after-requires c κs = pair-keys (c .before .args .pair) (c .before .pre)
+
+read-value-requires : tie.Need-read-value-requires
+unfolding pairKind
+read-value-requires c κs = pair-kinds (c .before .before .args .pair) (c .before .before .pre)
+
+returns : tie.Need-returns
+unfolding readPair pairKey pairKind
+returns c =
+    let s = c .before .before .before in
+    let k = s .args .pair in
+    c .read-value .ensures ∙ ap (readValue (kindAt (getD pairKind k 0))) (c .before .value-after .ensures)
+    ∙ ap (λ (f : Pair). readPair f (s .args .part .now)) (sym (pair-is k (s .pre)))
+
+pub read-pair-spec : {M : Type 1} → statement M
+read-pair-spec =
+    tie.close
+    (tie.spec
+    (search needs)
+    cast-key
+    (search needs)
+    cast-kind
+    value-after-requires
+    read-value-requires
+    returns)

@@ -1,0 +1,34 @@
+-- `line_writer::writing::put_pair` meets its contract.
+use mathlib.Core.Path.{sym, ap}
+use native.Mathlib.Omega.{arith}
+use borrow.Author.Needs.{needs}
+use Rattle.text.proofs.Puts.{put-is}
+use Rattle.grammar.specs.Form.{Pair, writePair}
+use Rattle.grammar.proofs.Tables.{pairKey, pairKind, pair-is, pair-keys, pair-kinds}
+use Rattle.line_writer.proofs.Written.{put-parts}
+use Rattle.line_writer.proofs.writing.put_pair.Statement.{statement}
+use Rattle.line_writer.proofs.writing.put_pair.Tie as tie
+
+pub put-pair-spec : {M : Type 1} → statement M
+unfolding pairKey pairKind writePair
+put-pair-spec =
+    tie.close
+    (tie.spec
+    (search needs)
+    (λ c. omega (arith, pair-keys (c .before .before .args .pair) (c .before .before .pre)))
+    (λ c κs. pair-keys (c .before .before .args .pair) (c .before .before .pre))
+    (λ c κs. search needs)
+    (search needs)
+    (λ c.
+    let s = c .before .before .before .before .before .before .before .before .before .before in
+    omega (arith, pair-kinds (s .args .pair) (s .pre)))
+    (λ c κs.
+    let s = c .before .before .before .before .before .before .before .before .before .before in
+    pair-kinds (s .args .pair) (s .pre))
+    (search needs)
+    (λ c.
+    let value = c .before .before .before .before in
+    let sign = value .before .before .before .before in
+    let s = sign .before .before .before .before .before in
+    put-is (ap (λ (p : Pair). writePair p (s .args .n)) (sym (pair-is (s .args .pair) (s .pre))))
+    (put-parts (omega arith) (sign .before .before .put-name .ensures) (value .before .before .put-byte .ensures) (c .before .before .put-value .ensures))))

@@ -1,0 +1,24 @@
+// Values, written by their kinds: numbers and words.
+use super::names::put_name;
+use grammar::NUMBERS;
+use grammar::WORD_COUNT;
+use grammar::WORD_FIRST;
+ghost use Prim.Native.Nat.{_<_};
+ghost use Rattle.text.specs.Put.{Put};
+ghost use Rattle.grammar.specs.Form.{writeValue};
+ghost use Rattle.grammar.specs.Tables.{kindAt};
+
+pub(super) fn put_value(out: &mut [u8], at: usize, kind: usize, n: u16) -> usize
+    requires { ⌜ kind < 16 ⌝ }
+    ensures { λ r. ⌜ Put (now (out .entry)) (now (out .exit)) (writeValue (kindAt kind) n) at r ⌝ }
+{
+    if kind < NUMBERS {
+        return text_writing::put_decimal(out, at, n as u32);
+    }
+    let k = kind - NUMBERS;
+    let place = n as usize;
+    if place < WORD_COUNT[k] as usize {
+        return put_name(out, at, WORD_FIRST[k] as usize + place);
+    }
+    at
+}
