@@ -29,9 +29,9 @@ advanced m k k′ t l l′ r n s given pulse w e q h g p b =
     ap (λ (x : Chip). record { ran = record { outcome = Success; chip = x; beats = t .beats; words = t .words1 ∷ t .words2 ∷ t .words3 ∷ [] }; pin = t .pin }) q
     ∙ b
     ∙ ap (λ (x : Chip). spanOf n (noBeat x)) (
-      p (fixedOf m) l
-      ∙ ap (withPulse given) (ap (chipOf (fixedOf m) k) e ∙ w)
-      ∙ ap (λ (v : Bool). withPulse v m) (g ∙ ap (λ (v : Bool). not v && pulse) (h ∙ ap stopped w))
+    p (fixedOf m) l
+    ∙ ap (withPulse given) (ap (chipOf (fixedOf m) k) e ∙ w)
+    ∙ ap (λ (v : Bool). withPulse v m) (g ∙ ap (λ (v : Bool). not v && pulse) (h ∙ ap stopped w))
     )
 
 -- no engine finishes more words than there were beats

@@ -3,16 +3,16 @@
 mod beats;
 mod idle;
 mod outputs;
-mod split;
 mod pending;
 mod spans;
+mod split;
 mod stops;
 mod turns;
 mod whole;
 
-pub use whole::advance;
 use cores::Core;
 use machine::Ran;
+pub use whole::advance;
 
 // Beats one after another: what a run of them answers, and whether the last sent to the pin.
 pub struct Span {

@@ -1,10 +1,10 @@
 // At most so many beats of a chip.
+use super::pending::with_pulse;
+use super::spans::span;
 use super::split::chip_of;
 use super::split::cores_of;
 use super::split::counts_of;
 use super::split::levels_of;
-use super::pending::with_pulse;
-use super::spans::span;
 use super::stops::stopped;
 use crate::Span;
 use machine::Chip;
