@@ -19,7 +19,7 @@ use Rattle.machine.specs.Judged.{judged}
 use Rattle.machine.specs.Stored.{stored}
 use Rattle.machine.specs.Burst.{Placed, visited, isUnlisted, someUnlisted, succeeds, bytesWritten, undone, burstOf}
 use Rattle.plan.proofs.Laws.{by-test}
-use Rattle.registers.proofs.Addresses.{listed-low}
+use Rattle.register_map.proofs.Addresses.{listed-low}
 
 abbrev pub placed : ℕ → ℕ → Placed
 placed a v = record { address = a; byte = v }

@@ -1,4 +1,1 @@
-pub mod Bytes
-pub mod Addresses
-pub mod Holders
-pub mod Single
+mod Bytes

@@ -1,7 +1,7 @@
 // A burst: 1, 2, then the bytes in order, each judged after those before it; one refusal undoes all.
-use super::listed::is_listed;
-use super::one_byte::write;
-use super::outcome::is_success;
+use register_map::is_listed;
+use register_write::write;
+use register_map::is_success;
 use machine::Chip;
 use machine::Outcome;
 use machine::Written;

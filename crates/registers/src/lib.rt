@@ -1,14 +1,5 @@
-// Host registers: a burst of bytes, what each answers and changes. The rules are document 01's, section
+// Bursts to the host registers: 1 and 2, then the bytes in order. The rules are document 01's, section
 // "Host registers" and its numbers 1 to 7; the definitions are crate machine's.
 mod bursts;
-mod engines;
-mod fields;
-mod held;
-mod judge;
-mod listed;
-mod one_byte;
-mod outcome;
-mod states;
-mod store;
 
 pub use bursts::burst;

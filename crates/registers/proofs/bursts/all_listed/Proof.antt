@@ -7,7 +7,7 @@ use lib.ListN.{length, drop}
 use borrow.Author.Tests.{not-true, not-false}
 use Rattle.word.specs.Profile.{LP5523}
 use Rattle.machine.specs.Burst.{visited, someUnlisted}
-use Rattle.registers.proofs.Addresses.{listed-low}
+use Rattle.register_map.proofs.Addresses.{listed-low}
 use Rattle.registers.proofs.Bytes.{unlisted-at, listed-at, listed-end}
 use Rattle.registers.proofs.bursts.all_listed.Statement.{statement}
 use Rattle.registers.proofs.bursts.all_listed.Tie as tie

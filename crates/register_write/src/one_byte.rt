@@ -1,0 +1,28 @@
+// One byte to one address: what it answers, and the chip after it.
+use super::judge::judge;
+use register_map::register_at;
+use register_map::is_success;
+use super::store::store;
+use machine::Chip;
+use machine::Outcome;
+use machine::Written;
+ghost use mathlib.Core.List.{[], _∷_};
+ghost use mathlib.Core.Path.{_≡_};
+ghost use Rattle.word.specs.Profile.{LP5523};
+ghost use Rattle.machine.specs.Burst.{bytesWritten};
+
+// Refused, the chip is as it was.
+pub fn write(chip: Chip, address: u16, byte: u8) -> Written
+    ensures { λ r. ⌜ r ≡ bytesWritten LP5523 (record { address = address; byte = byte } ∷ []) chip ⌝ }
+{
+    let register = register_at(address);
+    let outcome = judge(chip, register, byte);
+    if !is_success(outcome) {
+        return Written { outcome, chip };
+    }
+    let changed = store(chip, register, byte);
+    Written {
+        outcome: Outcome::Success,
+        chip: changed,
+    }
+}
