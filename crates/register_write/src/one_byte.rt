@@ -1,11 +1,11 @@
 // One byte to one address: what it answers, and the chip after it.
 use super::judge::judge;
-use register_map::register_at;
-use register_map::is_success;
 use super::store::store;
 use machine::Chip;
 use machine::Outcome;
 use machine::Written;
+use register_map::is_success;
+use register_map::register_at;
 ghost use mathlib.Core.List.{[], _∷_};
 ghost use mathlib.Core.Path.{_≡_};
 ghost use Rattle.word.specs.Profile.{LP5523};

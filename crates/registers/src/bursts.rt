@@ -1,10 +1,10 @@
 // A burst: 1, 2, then the bytes in order, each judged after those before it; one refusal undoes all.
-use register_map::is_listed;
-use register_write::write;
-use register_map::is_success;
 use machine::Chip;
 use machine::Outcome;
 use machine::Written;
+use register_map::is_listed;
+use register_map::is_success;
+use register_write::write;
 ghost use mathlib.Core.Bool.{not};
 ghost use mathlib.Core.Path.{_≡_};
 ghost use Rattle.word.specs.Profile.{LP5523};

@@ -1,0 +1,41 @@
+// Numbers of beats, and runs.
+use super::numbers;
+use super::print;
+use super::refusals;
+use super::status;
+use machine::Outcome;
+use machine::Ran;
+use text::Decimal;
+
+// The greatest number of beats that can be asked for; a run refuses it, and all above it.
+const TOO_MANY: u32 = 4_294_967_295;
+
+pub enum Beats {
+    Number(u32),
+    Malformed,
+}
+
+pub fn read(word: &[u8]) -> Beats {
+    match text_numbers::read_decimal(word, TOO_MANY) {
+        Decimal::Number(n) => Beats::Number(n),
+        Decimal::Outside => Beats::Number(TOO_MANY),
+        Decimal::Malformed => Beats::Malformed,
+    }
+}
+
+pub fn not_a_number() -> u8 {
+    status::malformed(b"a number of beats is decimal, without leading zeros")
+}
+
+// A run's counts, or its refusal.
+pub fn print_ran(r: Ran) -> u8 {
+    let outcome = r.outcome;
+    let Outcome::Success = outcome else {
+        return refusals::of_call(numbers::of_call(outcome));
+    };
+    print::pair(b"beats=", r.beats);
+    print::text(b" words=");
+    print::triple(r.words[0], r.words[1], r.words[2]);
+    print::text(b"\n");
+    status::DONE
+}

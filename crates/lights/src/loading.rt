@@ -1,0 +1,122 @@
+// A program loaded into a new chip by register writes.
+use machine::Chip;
+use plan::EnginePlan;
+use plan::Plan;
+
+const CONTROL: u16 = 0x00;
+
+const MODES: u16 = 0x01;
+
+const STARTS: u16 = 0x4C;
+
+const PAGE: u16 = 0x4F;
+
+const MEMORY: u16 = 0x50;
+
+// bit 6 of the control register
+const ENABLE: u8 = 64;
+
+// the three engines' modes in one byte: all to load
+const ALL_LOAD: u8 = 21;
+
+// A burst of one byte.
+fn write(m: Chip, address: u16, byte: u8) -> Chip {
+    let bytes = [byte];
+    let written = chip::burst(m, address, &bytes);
+    written.chip
+}
+
+fn half(w: u16, low: bool) -> u8 {
+    if low {
+        (w % 256) as u8
+    } else {
+        (w / 256) as u8
+    }
+}
+
+// Byte k of the image, high byte of each word first.
+fn byte_at(image: &[u16], k: usize) -> u8 {
+    let at = k / 2;
+    if at >= image.len() {
+        return 0;
+    }
+    half(image[at], k % 2 == 1)
+}
+
+// The bytes of a page's words.
+fn bytes_of(image: &[u16], page: usize) -> [u8; 32] {
+    let mut bytes = [0u8; 32];
+    let mut k: usize = 0;
+    while k < 32 {
+        bytes[k] = byte_at(image, page % 6 * 32 + k);
+        k += 1;
+    }
+    bytes
+}
+
+fn with_page(m: Chip, image: &[u16], page: u8) -> Chip {
+    let bytes = bytes_of(image, page as usize);
+    let written = chip::burst(write(m, PAGE, page), MEMORY, &bytes);
+    written.chip
+}
+
+fn with_memory(m: Chip, image: &[u16]) -> Chip {
+    let mut after = m;
+    let mut page: u8 = 0;
+    while page < 6 {
+        after = with_page(after, image, page);
+        page += 1;
+    }
+    after
+}
+
+fn start_of(q: EnginePlan) -> u8 {
+    match q {
+        EnginePlan::Unused => 0,
+        EnginePlan::Code { first, last: _ } => (first.0 % 256) as u8,
+        EnginePlan::CodeAndTable {
+            first,
+            last: _,
+            top: _,
+            bottom: _,
+        } => (first.0 % 256) as u8,
+    }
+}
+
+fn with_starts(m: Chip, plan: Plan) -> Chip {
+    let one = plan.engine1;
+    let two = plan.engine2;
+    let three = plan.engine3;
+    let bytes = [start_of(one), start_of(two), start_of(three)];
+    let written = chip::burst(m, STARTS, &bytes);
+    written.chip
+}
+
+// 2 for an engine that is used: run as a mode, free as a run setting.
+fn two_if_used(q: EnginePlan) -> u8 {
+    if let EnginePlan::Unused = q {
+        return 0;
+    }
+    2
+}
+
+// The used engines' twos, in the places of the modes and of the run settings.
+fn used(plan: Plan) -> u8 {
+    let one = plan.engine1;
+    let two = plan.engine2;
+    let three = plan.engine3;
+    two_if_used(one) % 4 * 16 + two_if_used(two) % 4 * 4 + two_if_used(three) % 4
+}
+
+// The program in memory, its engines in run mode and held.
+pub fn loaded(plan: Plan, image: &[u16]) -> Chip {
+    let enabled = write(chip::new_chip(), CONTROL, ENABLE);
+    let loading = write(write(enabled, MODES, 0), MODES, ALL_LOAD);
+    let filled = with_starts(with_memory(loading, image), plan);
+    write(write(filled, MODES, 0), MODES, used(plan))
+}
+
+// The used engines run free.
+pub fn freed(m: Chip, plan: Plan) -> Chip {
+    write(m, CONTROL, ENABLE + used(plan) % 64)
+}
