@@ -67,9 +67,10 @@ fn malformed(m: Chip) -> Answered {
 }
 
 fn burst(m: Chip, line: &[u8], count: usize) -> Answered {
-    let mut bytes = [0u8; 4096];
+    // a line of 65536 bytes has no more numbers
+    let mut bytes = [0u8; 32768];
     let first = byte_of(words::nth(line, 1));
-    if count < 2 || count > 4098 || first > 255 {
+    if count < 2 || first > 255 {
         return malformed(m);
     }
     let n = count - 2;

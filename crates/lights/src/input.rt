@@ -37,9 +37,12 @@ fn line_end(buf: &[u8], input: Input) -> usize {
     std::num::wrapping_add_usize(input.at, line(buf, input).len())
 }
 
-// Whether a line is there whole, or all that will come of it.
+// Whether a line is there whole, or as much of it as will come or as there is room for.
 fn is_ready(buf: &[u8], input: Input) -> bool {
     if input.over {
+        return true;
+    }
+    if input.at == 0 && input.end >= buf.len() {
         return true;
     }
     line_end(buf, input) < input.end
@@ -73,15 +76,11 @@ fn read_some(rest: &mut [u8]) -> usize {
     io::count(libc::read(0, rest), rest)
 }
 
-// One read more, after what is there. Where there is no room, no more comes.
+// One read more, after what is there, where there is room.
 fn more(buf: &mut [u8], input: Input) -> Input {
     let end = input.end;
     if end >= buf.len() {
-        return Input {
-            at: input.at,
-            end,
-            over: true,
-        };
+        return input;
     }
     let got = read_some(&mut buf[end..]);
     Input {
@@ -91,7 +90,7 @@ fn more(buf: &mut [u8], input: Input) -> Input {
     }
 }
 
-// Reads until a line is there. A line that fills the lent bytes is cut there.
+// Reads until a line is there. A line that fills the lent bytes is cut there, and goes on as another.
 pub fn ready(buf: &mut [u8], input: Input) -> Input {
     if is_ready(buf, input) {
         return input;
