@@ -11,7 +11,7 @@ use Rattle.beats.specs.declared.Cores.{Cores}
 use Rattle.beats.specs.declared.CoresRan.{CoresRan}
 use Rattle.beats.specs.declared.Span.{Span}
 use Rattle.beats.specs.Parts.{Fixed, Lent, lent, fixedOf, lentOf, chipOf, spanned}
-use Rattle.beats.specs.Spans.{begun, noBeat, spanOf}
+use Rattle.beats.specs.Spans.{withPulseTaken, noBeat, spanOf}
 
 -- what is lent of a chip, from what the code took of it
 pub lent-of : (m : Chip) {levels counts1 counts2 counts3 : List ℕ} → levels ≡ lentOf m .levels → counts1 ≡ lentOf m .counts1 → counts2 ≡ lentOf m .counts2 → counts3 ≡ lentOf m .counts3 → lent levels counts1 counts2 counts3 ≡ lentOf m
@@ -24,7 +24,7 @@ pub advanced : (m : Chip) (k k′ : Cores) (t : CoresRan) (l l′ : Lent) (r : C
     s ≡ stopped (chipOf (fixedOf m) k (lentOf m)) → given ≡ (not s && pulse) →
     ((f : Fixed) (x : Lent) → chipOf f k′ x ≡ withPulse given (chipOf f k x)) →
     spanned (fixedOf m) t l′ ≡ spanOf n (noBeat (chipOf (fixedOf m) k′ l)) →
-    _≡_ {A = Span} (record { ran = record { outcome = Success; chip = r; beats = t .beats; words = t .words1 ∷ t .words2 ∷ t .words3 ∷ [] }; pin = t .pin }) (spanOf n (noBeat (begun pulse m)))
+    _≡_ {A = Span} (record { ran = record { outcome = Success; chip = r; beats = t .beats; words = t .words1 ∷ t .words2 ∷ t .words3 ∷ [] }; pin = t .pin }) (spanOf n (noBeat (withPulseTaken pulse m)))
 advanced m k k′ t l l′ r n s given pulse w e q h g p b =
     ap (λ (x : Chip). record { ran = record { outcome = Success; chip = x; beats = t .beats; words = t .words1 ∷ t .words2 ∷ t .words3 ∷ [] }; pin = t .pin }) q
     ∙ b

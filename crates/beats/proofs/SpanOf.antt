@@ -29,7 +29,7 @@ use Rattle.beats.specs.declared.CoresTicked.{CoresTicked}
 use Rattle.beats.specs.declared.CoresRan.{CoresRan}
 use Rattle.beats.specs.declared.Span.{Span}
 use Rattle.beats.specs.Parts.{Fixed, Lent, chipOf, tickedOf, spanned}
-use Rattle.beats.specs.Spans.{begun, noBeat, oneBeatMore, spanOf, tickedFrom}
+use Rattle.beats.specs.Spans.{withPulseTaken, noBeat, oneBeatMore, spanOf, tickedFrom}
 use Rattle.beats.proofs.Levels.{each-none}
 use Rattle.beats.proofs.TurnOf.{three-turns}
 
@@ -147,7 +147,7 @@ unfolding quiet
 stopped-quiet m h = ap (λ (b : Bool). b || not (some acts (m .engines))) h
 
 -- a beat is a span of one beat at most
-pub beat-of-span : (pulse : Bool) (m : Chip) → length (m .engines) ≡ 3 → tickedFrom (spanOf 1 (noBeat (begun pulse m))) ≡ tick LP5523 pulse m
+pub beat-of-span : (pulse : Bool) (m : Chip) → length (m .engines) ≡ 3 → tickedFrom (spanOf 1 (noBeat (withPulseTaken pulse m))) ≡ tick LP5523 pulse m
 beat-of-span pulse m l =
     by-test (stopped m)
     (λ s.
@@ -160,7 +160,7 @@ beat-of-span pulse m l =
     ∙ sym (tick-goes pulse m s))
 
 -- a run is a span with no pulse
-pub run-of-span : (n : ℕ) (m : Chip) → n ≤ mostBeats → spanOf n (noBeat (begun false m)) .ran ≡ runOf LP5523 n m
+pub run-of-span : (n : ℕ) (m : Chip) → n ≤ mostBeats → spanOf n (noBeat (withPulseTaken false m)) .ran ≡ runOf LP5523 n m
 run-of-span n m h =
     ap (λ (b : Bool). spanOf n (noBeat (withPulse b m)) .ran) (none (not (stopped m)))
     ∙ ap (λ (x : Chip). spanOf n (noBeat x) .ran) (no-pulse m)

@@ -12,8 +12,8 @@ use Rattle.machine.specs.Run.{quiet, oneMore, beginning}
 use Rattle.beats.specs.declared.Span.{Span}
 
 -- The chip with a pulse, if given; one that is stopped takes none.
-abbrev pub begun : Bool → Chip → Chip
-begun pulse m = withPulse (not (stopped m) && pulse) m
+abbrev pub withPulseTaken : Bool → Chip → Chip
+withPulseTaken pulse m = withPulse (not (stopped m) && pulse) m
 
 abbrev pub noBeat : Chip → Span
 noBeat m = record { ran = beginning LP5523 Success m; pin = false }

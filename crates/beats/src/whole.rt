@@ -12,7 +12,7 @@ use machine::Outcome;
 use machine::Ran;
 ghost use mathlib.Core.Bool.{not, _&&_};
 ghost use mathlib.Core.Path.{_≡_};
-ghost use Rattle.beats.specs.Spans.{begun, noBeat, spanOf};
+ghost use Rattle.beats.specs.Spans.{withPulseTaken, noBeat, spanOf};
 
 // Whether a pulse is taken.
 fn taken(stopped: bool, pulse: bool) -> bool
@@ -27,7 +27,7 @@ fn taken(stopped: bool, pulse: bool) -> bool
 // A pulse at the pin, if given, and then at most so many beats; it stops before a beat if all is
 // quiet. A chip that is stopped takes no pulse.
 pub fn advance(chip: Chip, pulse: bool, most: u32) -> Span
-    ensures { λ r. ⌜ r ≡ spanOf most (noBeat (begun pulse chip)) ⌝ }
+    ensures { λ r. ⌜ r ≡ spanOf most (noBeat (withPulseTaken pulse chip)) ⌝ }
 {
     let k = cores_of(chip);
     let memory = chip.memory;

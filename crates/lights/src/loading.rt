@@ -70,6 +70,7 @@ fn with_memory(m: Chip, image: &[u16]) -> Chip {
     after
 }
 
+// The first address of an accepted plan is at most 95, so the remainder is the address itself.
 fn start_of(q: EnginePlan) -> u8 {
     match q {
         EnginePlan::Unused => 0,
