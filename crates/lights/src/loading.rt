@@ -1,5 +1,8 @@
 // A program loaded into a new chip by register writes.
+use super::numbers;
+use super::refusals;
 use machine::Chip;
+use machine::Written;
 use plan::EnginePlan;
 use plan::Plan;
 
@@ -19,11 +22,20 @@ const ENABLE: u8 = 64;
 // the three engines' modes in one byte: all to load
 const ALL_LOAD: u8 = 21;
 
+// The chip after a burst of the loading. No accepted program's is refused; were one, that is said.
+fn done(written: Written) -> Chip {
+    let outcome = written.outcome;
+    let number = numbers::of_call(outcome);
+    if number != 0 {
+        refusals::of_call(number);
+    }
+    written.chip
+}
+
 // A burst of one byte.
 fn write(m: Chip, address: u16, byte: u8) -> Chip {
     let bytes = [byte];
-    let written = chip::burst(m, address, &bytes);
-    written.chip
+    done(chip::burst(m, address, &bytes))
 }
 
 fn half(w: u16, low: bool) -> u8 {
@@ -56,8 +68,7 @@ fn bytes_of(image: &[u16], page: usize) -> [u8; 32] {
 
 fn with_page(m: Chip, image: &[u16], page: u8) -> Chip {
     let bytes = bytes_of(image, page as usize);
-    let written = chip::burst(write(m, PAGE, page), MEMORY, &bytes);
-    written.chip
+    done(chip::burst(write(m, PAGE, page), MEMORY, &bytes))
 }
 
 fn with_memory(m: Chip, image: &[u16]) -> Chip {
@@ -89,8 +100,7 @@ fn with_starts(m: Chip, plan: Plan) -> Chip {
     let two = plan.engine2;
     let three = plan.engine3;
     let bytes = [start_of(one), start_of(two), start_of(three)];
-    let written = chip::burst(m, STARTS, &bytes);
-    written.chip
+    done(chip::burst(m, STARTS, &bytes))
 }
 
 // 2 for an engine that is used: run as a mode, free as a run setting.
