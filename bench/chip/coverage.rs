@@ -1,7 +1,7 @@
 //! What scripts reach, by playing them on the plain chip beat by beat and looking at each turn
 //! before it is taken.
 use crate::plain::{Chip, Exec, Progress, WORDS};
-use crate::script::{next_call, Call};
+use crate::calls::Call;
 use crate::words::{decode, Test, Word};
 use std::collections::BTreeMap;
 
@@ -106,35 +106,33 @@ impl Coverage {
         acts.contains(&true)
     }
 
-    fn call(&mut self, chip: &mut Chip, call: Call) {
+    fn call(&mut self, chip: &mut Chip, call: &Call) {
         match call {
             Call::Tick(pulse) => {
-                let acted = self.tick(chip, pulse);
+                let acted = self.tick(chip, *pulse);
                 self.add("call", if acted { "beat" } else { "beat-idle" });
             }
-            Call::Run(beats) if beats > 1_000_000 => self.add("refusal", 8),
+            Call::Run(beats) if *beats > 1_000_000 => self.add("refusal", 8),
             Call::Run(beats) => {
                 // one beat past the last that acts changes nothing
-                let done = (0..beats).take_while(|_| self.tick(chip, false)).count() as u32;
-                self.add("call", if done < beats { "run-quiet" } else { "run-full" });
+                let done = (0..*beats).take_while(|_| self.tick(chip, false)).count() as u32;
+                self.add("call", if done < *beats { "run-quiet" } else { "run-full" });
             }
             Call::Burst(first, bytes) => {
-                let number = chip.burst(first, bytes);
+                let number = chip.burst((*first).into(), bytes);
                 self.add("refusal", number);
             }
             Call::Interrupts => {
                 let raised = chip.read_interrupts().contains(&true);
                 self.add("call", if raised { "interrupt-read-raised" } else { "interrupt-read" });
             }
-            Call::Nothing => self.add("call", "nothing"),
         }
     }
 
-    pub fn play(&mut self, script: &[u8]) {
-        let (mut chip, mut script) = (Chip::new(), script);
-        while let Some((next, rest)) = next_call(script) {
-            self.call(&mut chip, next);
-            script = rest;
+    pub fn play(&mut self, script: &[Call]) {
+        let mut chip = Chip::new();
+        for call in script {
+            self.call(&mut chip, call);
         }
     }
 

@@ -1,5 +1,6 @@
 //! Random scripts from a fixed seed. Programs are mostly defined words with short times, so that
 //! engines get far; calls are mostly valid, and each kind of refusal is asked for.
+use crate::calls::Call;
 
 /// Marsaglia's xorshift.
 pub struct Random(u64);
@@ -132,28 +133,16 @@ fn defined_word(random: &mut Random) -> u16 {
 
 /// A script under way.
 struct Writer {
-    script: Vec<u8>,
+    script: Vec<Call>,
 }
 
 impl Writer {
-    fn tick(&mut self, pulse: bool) {
-        self.script.extend([1, pulse.into()]);
+    fn burst(&mut self, first: u8, bytes: &[u8]) {
+        self.script.push(Call::Burst(first, bytes.to_vec()));
     }
 
     fn run(&mut self, beats: u32) {
-        self.script.push(2);
-        self.script.extend(beats.to_le_bytes());
-    }
-
-    fn burst(&mut self, first: u16, bytes: &[u8]) {
-        self.script.push(3);
-        self.script.extend(first.to_le_bytes());
-        self.script.push(bytes.len() as u8);
-        self.script.extend(bytes);
-    }
-
-    fn interrupts(&mut self) {
-        self.script.push(4);
+        self.script.push(Call::Run(beats));
     }
 
     /// Disables, loads and writes some pages with their page number first, then starts the engines.
@@ -183,7 +172,7 @@ impl Writer {
             1 => self.run(20_000),
             2..=60 => self.run(random.below(200).into()),
             61..=90 => self.run(random.below(3).into()),
-            _ => self.tick(random.one_in(3)),
+            _ => self.script.push(Call::Tick(random.one_in(3))),
         }
     }
 
@@ -194,9 +183,9 @@ impl Writer {
             0..=4 => self.burst(0x00, &[if random.one_in(12) { any } else { 0x40 | any & 0x3F }]),
             5 | 6 => self.burst(0x01, &[if random.one_in(3) { any & 0x3F } else { any & 0x2A }]),
             7 => self.burst(0x01, &[random.pick(&[0x00, 0x2A, 0x15, any])]),
-            8 | 9 => self.burst(0x16 + random.below(9), &[any]),
+            8 | 9 => self.burst(0x16 + random.below(9) as u8, &[any]),
             10 => self.burst(0x3C, &[any]),
-            11 => self.burst(0x4C + random.below(3), &[if random.one_in(4) { any } else { any % 96 }]),
+            11 => self.burst(0x4C + random.below(3) as u8, &[if random.one_in(4) { any } else { any % 96 }]),
             12 => self.burst(0x4F, &[if random.one_in(3) { any } else { any % 7 }]),
             _ => self.memory(random),
         }
@@ -207,18 +196,18 @@ impl Writer {
         if random.one_in(2) {
             self.burst(0x01, &[random.pick(&[0x24, 0x21, 0x09, 0x06])]);
         }
-        self.burst(0x50 + random.below(32), &[random.byte()]);
+        self.burst(0x50 + random.below(32) as u8, &[random.byte()]);
     }
 
     /// A burst of any length at any register, and at the edges of the list.
     fn any_burst(&mut self, random: &mut Random) {
         let first = match random.below(6) {
-            0 => random.below(0x100),
-            1 => random.pick(&[0x6F, 0x70, 0xFF, 0x100, 0xFFFF, 0x1F, 0x3D]),
-            2 => 0x4C + random.below(4),
-            3 => 0x16 + random.below(9),
-            4 => random.below(2),
-            _ => 0x50 + random.below(32),
+            0 => random.byte(),
+            1 => random.pick(&[0x6F, 0x70, 0xFF, 0x1F, 0x3D]),
+            2 => 0x4C + random.below(4) as u8,
+            3 => 0x16 + random.below(9) as u8,
+            4 => random.below(2) as u8,
+            _ => 0x50 + random.below(32) as u8,
         };
         let length = if random.one_in(3) { random.below(41) } else { random.below(4) };
         let small = random.one_in(2);
@@ -228,7 +217,7 @@ impl Writer {
 }
 
 /// Calls to a new chip: a program most times, then any calls, now and then another program.
-pub fn script(random: &mut Random) -> Vec<u8> {
+pub fn script(random: &mut Random) -> Vec<Call> {
     let mut writer = Writer { script: Vec::new() };
     if !random.one_in(20) {
         writer.program(random, 6);
@@ -239,7 +228,7 @@ pub fn script(random: &mut Random) -> Vec<u8> {
                 let pages = random.byte() % 7;
                 writer.program(random, pages);
             }
-            1..=3 => writer.interrupts(),
+            1..=3 => writer.script.push(Call::Interrupts),
             4..=9 => writer.register(random),
             10 | 11 => writer.any_burst(random),
             _ => writer.beats(random),
@@ -247,9 +236,6 @@ pub fn script(random: &mut Random) -> Vec<u8> {
     }
     if random.one_in(1000) {
         writer.run(1_000_000);
-    }
-    if random.one_in(10) {
-        writer.script.extend([random.byte(), random.byte(), random.byte()]);
     }
     writer.script
 }

@@ -1,80 +1,127 @@
-//! Compares the proved chip with a plain one: answers and final states on random scripts, folded into
-//! one number, then the beats per second of both on the same scripts, in one run. The first argument
-//! is the number of random scripts.
+//! Compares the proved chip, as the program `lights` runs it on its bench, with a plain one: every
+//! answer and the states of random scripts of calls, then the beats per second of both on the same
+//! calls, in one run. The first argument is the number of random scripts.
+mod calls;
 mod coverage;
 mod generate;
+mod peer;
 mod plain;
-mod script;
+mod state;
 mod timing;
 mod words;
 
+use calls::Call;
 use coverage::Coverage;
 use generate::Random;
+use peer::Peer;
+use plain::Chip;
 use std::hint::black_box;
+use std::io::Result;
 use std::time::Instant;
 
-extern "C" {
-    fn chip_play(script: *const u8, script_len: usize) -> u64;
+/// The beats that are run after a script, so that a word in progress is seen to go on as it should.
+const AFTER: u32 = 3_000;
+
+fn lines_of(script: &[Call]) -> String {
+    script.iter().map(|call| call.line() + "\n").collect()
 }
 
-fn proved(script: &[u8]) -> u64 {
-    // reads the script's bytes, no others
-    unsafe { chip_play(script.as_ptr(), script.len()) }
+/// The bench's lines for a script on a new chip.
+fn asked(script: &[Call]) -> String {
+    format!("bench\n{}state\nmemory\nrun {AFTER}\nstate\nquit\n", lines_of(script))
 }
 
-#[inline(never)]
-fn plain(script: &[u8]) -> u64 {
-    script::play(script)
+/// The answers that the plain chip gives.
+fn expected(script: &[Call]) -> Vec<String> {
+    let mut chip = Chip::new();
+    let mut lines: Vec<String> = script.iter().map(|call| call.make(&mut chip)).collect();
+    lines.extend(state::state(&chip));
+    lines.extend(state::memory(&chip));
+    lines.push(Call::Run(AFTER).make(&mut chip));
+    lines.extend(state::state(&chip));
+    lines
 }
 
-/// Shows a script on which the two sides differ.
-fn report(script: &[u8], proved: u64, plain: u64) {
-    println!("digests: proved={proved:08x} plain={plain:08x}");
-    let bytes: Vec<String> = script.iter().map(|byte| format!("{byte:02x}")).collect();
-    println!("script: {}", bytes.join(""));
+/// Shows where the two sides first differ.
+fn report(script: &[Call], proved: &[String], plain: &[String]) {
+    if let Some((ours, theirs)) = proved.iter().zip(plain).find(|(ours, theirs)| ours != theirs) {
+        println!("proved: {ours}\nplain:  {theirs}\nscript:\n{}", lines_of(script));
+    }
 }
 
 /// The number of scripts on which the two sides differ.
-fn compare(scripts: u32) -> u32 {
+fn compare(peer: &mut Peer, scripts: u32) -> Result<u32> {
     let (mut random, mut coverage, mut differing) = (Random::new(0x5523), Coverage::new(), 0);
     for _ in 0..scripts {
         let script = generate::script(&mut random);
         coverage.play(&script);
-        let (ours, theirs) = (proved(&script), plain(&script));
+        let theirs = expected(&script);
+        peer.tell(&asked(&script))?;
+        let ours = peer.answers(theirs.len())?;
         if ours != theirs {
             differing += 1;
             if differing <= 3 {
-                report(&script, ours, theirs);
+                report(&script, &ours, &theirs);
             }
         }
     }
     println!("scripts={scripts} differing={differing}");
     coverage.print();
-    differing
+    Ok(differing)
 }
 
-fn seconds(play: fn(&[u8]) -> u64, script: &[u8]) -> f64 {
+/// The time from a script's lines to their answers.
+fn proved_seconds(peer: &mut Peer, script: &[Call]) -> Result<f64> {
+    let lines = lines_of(script);
     let begin = Instant::now();
-    black_box(play(black_box(script)));
+    peer.tell(&lines)?;
+    black_box(peer.answers(script.len())?);
+    Ok(begin.elapsed().as_secs_f64())
+}
+
+/// The same on the plain chip, which is given the calls themselves.
+fn plain_seconds(script: &[Call]) -> f64 {
+    let mut chip = Chip::new();
+    let begin = Instant::now();
+    for call in script {
+        black_box(call.make(black_box(&mut chip)));
+    }
     begin.elapsed().as_secs_f64()
 }
 
-fn time(name: &str, script: &[u8]) {
-    let beats = script::beats_run(script);
+fn beats_run(script: &[Call]) -> u32 {
+    let mut chip = Chip::new();
+    let beats = |call: &Call| match call {
+        Call::Run(most) => chip.run(*most).unwrap_or_default().beats,
+        other => {
+            other.make(&mut chip);
+            0
+        }
+    };
+    script.iter().map(beats).sum()
+}
+
+fn time(peer: &mut Peer, name: &str, script: &[Call]) -> Result<()> {
+    let beats = beats_run(script);
     let mut best = (f64::MAX, f64::MAX);
+    peer.tell("bench\n")?;
     for _ in 0..10 {
-        best = (best.0.min(seconds(proved, script)), best.1.min(seconds(plain, script)));
+        best = (best.0.min(proved_seconds(peer, script)?), best.1.min(plain_seconds(script)));
     }
+    peer.tell("quit\n")?;
     let speed = |seconds: f64| f64::from(beats) / seconds / 1e6;
     let (ours, theirs, ratio) = (speed(best.0), speed(best.1), best.0 / best.1);
     println!("{name}: beats={beats} proved={ours:.2} Mbeats/s plain={theirs:.2} Mbeats/s ratio={ratio:.2}");
+    Ok(())
 }
 
-fn main() {
+fn main() -> Result<()> {
     let scripts = std::env::args().nth(1).and_then(|count| count.parse().ok()).unwrap_or(20_000);
-    if compare(scripts) != 0 {
+    let mut peer = Peer::start("target/bin/lights")?;
+    if compare(&mut peer, scripts)? != 0 {
         std::process::exit(1);
     }
-    time("busy", &timing::busy());
-    time("worked", &timing::worked());
+    time(&mut peer, "busy", &timing::busy())?;
+    time(&mut peer, "worked", &timing::worked())?;
+    peer.end()
 }
