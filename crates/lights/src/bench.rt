@@ -108,8 +108,10 @@ fn beat_line(m: Chip, line: &[u8], count: usize) -> Answered {
 
 fn ran(m: Chip, beats: u32) -> Answered {
     let r = chip::run(m, beats);
+    let outcome = r.outcome;
+    let words = r.words;
     let after = r.chip;
-    with(after, counting::print_ran(r))
+    with(after, counting::print_ran(outcome, r.beats, words))
 }
 
 fn run_line(m: Chip, line: &[u8], count: usize) -> Answered {
@@ -122,16 +124,16 @@ fn run_line(m: Chip, line: &[u8], count: usize) -> Answered {
     ran(m, n)
 }
 
+fn print_flags(a: bool, b: bool, c: bool) {
+    print::text(b"interrupts=");
+    print::triple(print::flag(a), print::flag(b), print::flag(c));
+    print::text(b"\n");
+}
+
 fn interrupts(m: Chip) -> Answered {
     let r = chip::read_interrupts(m);
     let after = r.chip;
-    print::text(b"interrupts=");
-    print::triple(
-        print::flag(r.flags[0]),
-        print::flag(r.flags[1]),
-        print::flag(r.flags[2]),
-    );
-    print::text(b"\n");
+    print_flags(r.flags[0], r.flags[1], r.flags[2]);
     with(after, status::DONE)
 }
 

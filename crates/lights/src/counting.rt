@@ -4,7 +4,6 @@ use super::print;
 use super::refusals;
 use super::status;
 use machine::Outcome;
-use machine::Ran;
 use text::Decimal;
 
 // The greatest number of beats that can be asked for; a run refuses it, and all above it.
@@ -28,14 +27,13 @@ pub fn not_a_number() -> u8 {
 }
 
 // A run's counts, or its refusal.
-pub fn print_ran(r: Ran) -> u8 {
-    let outcome = r.outcome;
+pub fn print_ran(outcome: Outcome, beats: u32, words: [u32; 3]) -> u8 {
     let Outcome::Success = outcome else {
         return refusals::of_call(numbers::of_call(outcome));
     };
-    print::pair(b"beats=", r.beats);
+    print::pair(b"beats=", beats);
     print::text(b" words=");
-    print::triple(r.words[0], r.words[1], r.words[2]);
+    print::triple(words[0], words[1], words[2]);
     print::text(b"\n");
     status::DONE
 }

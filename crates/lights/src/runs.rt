@@ -23,8 +23,10 @@ const MOST_BEATS: u32 = 1_000_000;
 
 fn ran(m: Chip, beats: u32) -> u8 {
     let r = chip::run(m, beats);
+    let outcome = r.outcome;
+    let words = r.words;
     let after = r.chip;
-    let how = counting::print_ran(r);
+    let how = counting::print_ran(outcome, r.beats, words);
     if how == status::DONE {
         state::print_chip(after);
     }

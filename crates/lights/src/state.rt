@@ -6,6 +6,7 @@ use machine::Chip;
 use machine::Engine;
 use machine::Exec;
 use machine::Mode;
+use machine::Output;
 use machine::Progress;
 
 fn mode_of(mode: Mode) -> u32 {
@@ -96,24 +97,32 @@ fn print_engine(number: u32, e: Engine) {
 }
 
 // D1 to D9, then the GPO.
-fn print_outputs(m: Chip) {
-    print::pair(b"outputs=", wide(m.outputs[0].level));
-    let mut k: usize = 1;
+fn print_outputs(outputs: [Output; 10]) {
+    let mut k: usize = 0;
     while k < 10 {
-        print::pair(b",", wide(m.outputs[k].level));
+        if k > 0 {
+            print::text(b",");
+        }
+        print::decimal(wide(outputs[k].level));
         k += 1;
     }
     print::text(b"\n");
 }
 
-pub fn print_chip(m: Chip) {
-    print::pair(b"chip enable=", print::flag(m.enabled));
-    print::pair(b" c=", wide(m.c));
-    print::pair(b" d=", wide(m.d));
-    print::pair(b" page=", wide(m.page));
+fn print_common(enabled: bool, c: u8, d: u8, page: u8) {
+    print::pair(b"chip enable=", print::flag(enabled));
+    print::pair(b" c=", wide(c));
+    print::pair(b" d=", wide(d));
+    print::pair(b" page=", wide(page));
     print::text(b"\n");
+}
+
+pub fn print_chip(m: Chip) {
+    let outputs = m.outputs;
+    print_common(m.enabled, m.c, m.d, m.page);
     print_engine(1, m.engines[0]);
     print_engine(2, m.engines[1]);
     print_engine(3, m.engines[2]);
-    print_outputs(m);
+    print::text(b"outputs=");
+    print_outputs(outputs);
 }

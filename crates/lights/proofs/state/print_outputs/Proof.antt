@@ -6,10 +6,10 @@ use Rattle.lights.proofs.state.print_outputs.Statement.{statement}
 use Rattle.lights.proofs.state.print_outputs.Tie as tie
 
 abbrev Inv-loop : tie.InvT-loop
-Inv-loop m k₀ t5 t6 k = Unit {0}
+Inv-loop outputs k₀ t4 t5 k = Unit {0}
 
 abbrev μ-loop : tie.MeasureT-loop
-μ-loop m k₀ t5 t6 k = 10 - k
+μ-loop outputs k₀ t4 t5 k = 10 - k
 
 pub print-outputs-spec : {M : Type 1} → statement M
 print-outputs-spec =
@@ -17,12 +17,9 @@ print-outputs-spec =
     (tie.spec
     Inv-loop
     μ-loop
-    (λ c. search needs)
-    (λ c. search needs)
-    (λ c κs. tt)
-    (λ c κs. tt)
     (λ c. tt)
     (λ c. search needs)
+    (λ c κs. tt)
     (λ c. search needs)
     (λ c κs. tt)
     (λ c κs. tt)
