@@ -1,5 +1,5 @@
-// Plays a script, the standard input, on the reader and the writer of sheets (crates asm and
-// op_lines). Writes each line of the script, with the answers of what was called.
+// Plays a script, the standard input, on the readers and writers of sheets and of single op lines.
+// Writes each line of the script, with the answers of what was called.
 mod arguments;
 mod lent;
 mod names;

@@ -41,7 +41,7 @@ fn called(code: u16, out: &mut [u8], room: usize) -> WordWritten {
     if room > out.len() {
         return WordWritten::TooShort;
     }
-    op_lines::disassemble_word(code, &mut out[..room])
+    word_disassembler::disassemble_word(code, &mut out[..room])
 }
 
 // Whether a code is written as the line that it was read from.
@@ -53,7 +53,7 @@ fn print_again(code: u16, line: &[u8]) {
 }
 
 pub fn read(line: &[u8]) {
-    let read = op_lines::assemble_line(line);
+    let read = op_reader::assemble_line(line);
     print::text(b": number=");
     print::decimal(read_number(read));
     let WordLine::Code(code) = read else {

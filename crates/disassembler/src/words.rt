@@ -20,7 +20,7 @@ fn put_word(out: &mut [u8], at: usize, form: Form, code: u16) -> usize
     ensures { λ r. ⌜ Put (now (out .entry)) (now (out .exit)) (wordLine LP5523 form code ++ (lineFeed ∷ [])) at r ⌝ }
 {
     if let Form::Op = form {
-        let end = op_lines::put_op_line(out, at, code);
+        let end = op_writer::put_op_line(out, at, code);
         return text_writing::put_byte(out, end, LINE_FEED);
     }
     let v = Values {

@@ -14,7 +14,7 @@ const LONGEST_LINE: usize = 128;
 
 fn print_op(code: u16) -> u8 {
     let mut line = [0u8; LONGEST_LINE];
-    let WordWritten::Length(n) = op_lines::disassemble_word(code, &mut line) else {
+    let WordWritten::Length(n) = word_disassembler::disassemble_word(code, &mut line) else {
         print::text(b"undefined\n");
         return status::DONE;
     };
@@ -33,7 +33,7 @@ pub fn decode(word: &[u8]) -> u8 {
 
 // An op line's word.
 pub fn encode(line: &[u8]) -> u8 {
-    let read = op_lines::assemble_line(line);
+    let read = op_reader::assemble_line(line);
     let WordLine::Code(code) = read else {
         return refusals::of_op(numbers::of_op(read));
     };

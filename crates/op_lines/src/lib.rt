@@ -1,11 +1,5 @@
-// Op lines of a sheet, read as words and written from words.
-mod reading;
-mod words;
-mod writing;
-
-pub use reading::assemble_line;
-pub use writing::disassemble_word;
-pub use writing::put_op_line;
+// What op lines and words are to each other. The functions stand in `op_reader`, `op_writer` and
+// `word_disassembler`.
 
 // What reading an op line answers. `answerOf` in specs/Lines.antt gives each case's number.
 pub enum WordLine {

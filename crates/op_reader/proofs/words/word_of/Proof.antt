@@ -1,4 +1,4 @@
--- `op_lines::words::word_of` meets its contract.
+-- `op_reader::words::word_of` meets its contract.
 use borrow.Author.Tests.{eqb-true, eqb-false}
 use mathlib.Core.Bool.{Bool, true, false}
 use mathlib.Core.Path.{_≡_, refl, sym, ap, _∙_}
@@ -9,9 +9,9 @@ use lib.ListN.{getD, List·getD-eq-default}
 use Rattle.word.specs.declared.Word.{Word}
 use Rattle.word.specs.declared.Word.the-variants.{Undefined}
 use Rattle.parts.specs.declared.Parts.{Parts}
 use Rattle.op_lines.specs.Words.{wordsWith, wordOf}
-use Rattle.op_lines.proofs.words.word_of.Statement.{statement}
-use Rattle.op_lines.proofs.words.word_of.Tie as tie
+use Rattle.op_reader.proofs.words.word_of.Statement.{statement}
+use Rattle.op_reader.proofs.words.word_of.Tie as tie
 
 -- An arm of the match: the word stands at the operation's place in the list.
 arm : (p : Parts) {n : ℕ} {w : Word} → w ≡ getD (wordsWith (p .a) (p .b) (p .c) (p .d)) n Undefined → p .op ≡ n → w ≡ wordOf p

@@ -1,4 +1,4 @@
--- `op_lines::writing::put_op_line` meets its contract.
+-- `op_writer::writing::put_op_line` meets its contract.
 use mathlib.Core.List.{[], _∷_}
 use mathlib.Core.Path.{ap, _∙_}
 use borrow.Author.Needs.{needs}
@@ -9,10 +9,10 @@ use Rattle.parts.specs.Parts.{partsOf}
 use Rattle.grammar.specs.declared.Form.the-variants.{Op}
 use Rattle.grammar.specs.Grammar.{writeLine}
 use Rattle.grammar.specs.Tables.{listOf}
 use Rattle.op_lines.specs.Lines.{valuesIn, opValues, opLineOf}
 use Rattle.op_lines.proofs.Room.{four-operands}
-use Rattle.op_lines.proofs.writing.put_op_line.Statement.{statement}
-use Rattle.op_lines.proofs.writing.put_op_line.Tie as tie
+use Rattle.op_writer.proofs.writing.put_op_line.Statement.{statement}
+use Rattle.op_writer.proofs.writing.put_op_line.Tie as tie
 
 pub put-op-line-spec : {M : Type 1} → statement M
 unfolding listOf opValues opLineOf

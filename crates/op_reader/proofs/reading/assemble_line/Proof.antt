@@ -1,4 +1,4 @@
--- `op_lines::reading::assemble_line` meets its contract.
+-- `op_reader::reading::assemble_line` meets its contract.
 use mathlib.Core.Path.{_≡_, sym, _∙_}
 use borrow.Author.Needs.{needs}
 use Rattle.word.specs.Profile.{LP5523}
@@ -7,9 +7,9 @@ use Rattle.grammar.specs.declared.LineRead.the-variants.{Read, Refused}
 use Rattle.grammar.specs.Grammar.{readLine}
 use Rattle.grammar.specs.Tables.{lineReadOf}
 use Rattle.grammar.proofs.Exactly.{refuses-exactly}
 use Rattle.op_lines.proofs.Answered.{refused-as, read-op, read-code, refused-code}
-use Rattle.op_lines.proofs.reading.assemble_line.Statement.{statement}
-use Rattle.op_lines.proofs.reading.assemble_line.Tie as tie
+use Rattle.op_reader.proofs.reading.assemble_line.Statement.{statement}
+use Rattle.op_reader.proofs.reading.assemble_line.Tie as tie
 
 -- what the reader gives in each arm
 read : (c : tie.After-v) → lineReadOf (readLine LP5523 Op (c .before .before .before .before .args .line .now)) ≡ Read (c .v .given .0 .0)

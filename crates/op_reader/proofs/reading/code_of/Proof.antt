@@ -1,13 +1,13 @@
--- `op_lines::reading::code_of` meets its contract.
+-- `op_reader::reading::code_of` meets its contract.
 use mathlib.Core.Path.{sym, ap, _∙_}
 use borrow.Author.Needs.{needs}
 use Rattle.word.specs.Answer.{answerOf}
 use Rattle.word.specs.Profile.{LP5523}
 use Rattle.word.specs.Table.{encodeOf}
 use Rattle.parts.specs.Parts.{parts}
 use Rattle.op_lines.proofs.Answered.{defined, no-code}
-use Rattle.op_lines.proofs.reading.code_of.Statement.{statement}
-use Rattle.op_lines.proofs.reading.code_of.Tie as tie
+use Rattle.op_reader.proofs.reading.code_of.Statement.{statement}
+use Rattle.op_reader.proofs.reading.code_of.Tie as tie
 
 pub code-of-spec : {M : Type 1} → statement M
 code-of-spec =

@@ -1,4 +1,4 @@
--- `op_lines::writing::disassemble_word` meets its contract. Measured on no bytes, the place after a line is its length, or the greatest
+-- `word_disassembler::writing::disassemble_word` meets its contract. Measured on no bytes, the place after a line is its length, or the greatest
 -- place where the line is longer; and no lent bytes reach so far.
 use mathlib.Core.Bool.{Bool}
 use mathlib.Core.Path.{_≡_, sym, ap, _∙_}
@@ -11,11 +11,11 @@ use Rattle.word.specs.Profile.{LP5523}
 use Rattle.word.specs.Table.{encodeOf}
 use Rattle.word.specs.Decode.{decodeOf}
 use Rattle.word.specs.declared.Word.{Word}
 use Rattle.op_lines.specs.declared.WordWritten.the-variants.{Length}
 use Rattle.op_lines.specs.Lines.{opLineOf}
 use Rattle.op_lines.proofs.Room.{undefined, no-room, with-room}
-use Rattle.op_lines.proofs.writing.disassemble_word.Statement.{statement}
-use Rattle.op_lines.proofs.writing.disassemble_word.Tie as tie
+use Rattle.word_disassembler.proofs.writing.disassemble_word.Statement.{statement}
+use Rattle.word_disassembler.proofs.writing.disassemble_word.Tie as tie
 
 -- what was said of the code's word
 said : (c : tie.After-is-undefined) {t : Bool} → c .is-undefined .result ≡ t

@@ -1,9 +1,9 @@
 // An op line, read.
 use super::words::word_of;
-use crate::WordLine;
 use grammar::Form;
 use grammar::LineRead;
 use grammar::Values;
+use op_lines::WordLine;
 use parts::Parts;
 use word::Coded;
 ghost use mathlib.Core.Path.{_≡_};

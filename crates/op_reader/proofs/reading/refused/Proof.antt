@@ -1,10 +1,10 @@
--- `op_lines::reading::refused` meets its contract.
+-- `op_reader::reading::refused` meets its contract.
 use Prim.Native.Nat.{ℕ}
 use mathlib.Core.Logic.{_⊎_, inl, inr}
 use mathlib.Core.Path.{_≡_, sym, ap}
 use Rattle.word.specs.Answer.{refusal}
-use Rattle.op_lines.proofs.reading.refused.Statement.{statement}
-use Rattle.op_lines.proofs.reading.refused.Tie as tie
+use Rattle.op_reader.proofs.reading.refused.Statement.{statement}
+use Rattle.op_reader.proofs.reading.refused.Tie as tie
 
 -- the last arm is for 22
 last : {k : ℕ} → (k ≡ 20) ⊎ ((k ≡ 21) ⊎ (k ≡ 22)) → (k ≡ 20 → ⊥) → (k ≡ 21 → ⊥) → k ≡ 22

@@ -1,4 +1,4 @@
--- `op_lines::writing::is_undefined` meets its contract.
+-- `word_disassembler::writing::is_undefined` meets its contract.
 use Prim.Native.Nat.{ℕ}
 use mathlib.Core.List.{List, [], _∷_}
 use mathlib.Core.Path.{_≡_, sym, subst}
@@ -11,8 +11,8 @@ use Rattle.word.specs.Table.{encodeOf}
 use Rattle.word.specs.declared.Word.{Word}
 use Rattle.word.proofs.Word.{the-type}
 use Rattle.word.proofs.Theorems.{refuses-13}
-use Rattle.op_lines.proofs.writing.is_undefined.Statement.{statement}
-use Rattle.op_lines.proofs.writing.is_undefined.Tie as tie
+use Rattle.word_disassembler.proofs.writing.is_undefined.Statement.{statement}
+use Rattle.word_disassembler.proofs.writing.is_undefined.Tie as tie
 
 -- the variants that are left
 abbrev keys : List ℕ

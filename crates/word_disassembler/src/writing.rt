@@ -1,33 +1,13 @@
-// The line of a code, written.
-use crate::WordWritten;
-use grammar::Form;
-use grammar::Values;
+// The line of a code, written whole or not at all.
+use op_lines::WordWritten;
+use op_writer::put_op_line;
 use word::Word;
 ghost use mathlib.Core.Path.{_≡_};
 ghost use lib.Dec.{eqb};
 ghost use lib.ListN.{length};
-ghost use Rattle.text.specs.Put.{Put};
 ghost use Rattle.word.specs.Profile.{LP5523};
 ghost use Rattle.word.specs.Table.{encodeOf};
-ghost use Rattle.op_lines.specs.Lines.{opLineOf, disassembleWordOf, bytesAfter};
-
-// Writes the line of a code without its LF, as far as the lent bytes reach; answers the place after
-// it.
-pub fn put_op_line(out: &mut [u8], at: usize, code: u16) -> usize
-    ensures { λ r. ⌜ Put (now (out .entry)) (now (out .exit)) (opLineOf LP5523 code) at r ⌝ }
-{
-    let p = parts::parts_of(decoder::decode(code));
-    let v = Values {
-        a: p.op,
-        b: p.a,
-        c: p.b,
-        d: p.c,
-        e: p.d,
-        f: 0,
-        g: 0,
-    };
-    line_writer::put_line(out, at, Form::Op, v)
-}
+ghost use Rattle.op_lines.specs.Lines.{disassembleWordOf, bytesAfter};
 
 // Whether a word is the undefined one, for which the encoder gives 13.
 fn is_undefined(i: Word) -> bool

@@ -1,0 +1,5 @@
+// An op line, read as a word's code.
+mod reading;
+mod words;
+
+pub use reading::assemble_line;

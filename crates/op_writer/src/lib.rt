@@ -1,0 +1,4 @@
+// The op line of a code, written.
+mod writing;
+
+pub use writing::put_op_line;
