@@ -49,7 +49,7 @@ fn print_again(code: u16, line: &[u8]) {
     let mut out = [FILL_BYTE; 100];
     let written = called(code, &mut out, 100);
     print::text(b" written=");
-    print::same(text_pairs::same(up_to(&out, length_of(written)), line));
+    print::same(text_parts::same(up_to(&out, length_of(written)), line));
 }
 
 pub fn read(line: &[u8]) {

@@ -87,7 +87,7 @@ pub fn play(script: &[u8], bytes: &mut [u8]) {
     let mut s = begin();
     let mut at = 0;
     while at < script.len() {
-        let line = text_pairs::part_at(script, at, LINE_FEED);
+        let line = text_parts::part_at(script, at, LINE_FEED);
         s = played(s, bytes, line);
         at = at + line.len() + 1;
     }

@@ -45,7 +45,7 @@ fn read_words(text: &[u8], from: usize, plan: Plan, words: &mut [u16]) -> Assemb
     let mut at = from;
     let mut k = 0;
     while k < WORDS {
-        let line = text_pairs::part_at(text, at, LINE_FEED);
+        let line = text_parts::part_at(text, at, LINE_FEED);
         let end = at + line.len();
         let number = k as u16 + 4;
         if end >= text.len() {

@@ -100,7 +100,7 @@ fn beat_line(m: Chip, line: &[u8], count: usize) -> Answered {
     if count == 1 {
         return beat(m, false);
     }
-    if count == 2 && text_pairs::same(words::nth(line, 1), b"pulse") {
+    if count == 2 && text_parts::same(words::nth(line, 1), b"pulse") {
         return beat(m, true);
     }
     malformed(m)
@@ -150,13 +150,13 @@ fn print_memory(m: Chip) -> Answered {
 
 // A command that is one word.
 fn single(m: Chip, name: &[u8]) -> Answered {
-    if text_pairs::same(name, b"interrupts") {
+    if text_parts::same(name, b"interrupts") {
         return interrupts(m);
     }
-    if text_pairs::same(name, b"state") {
+    if text_parts::same(name, b"state") {
         return print_state(m);
     }
-    if text_pairs::same(name, b"memory") {
+    if text_parts::same(name, b"memory") {
         return print_memory(m);
     }
     malformed(m)
@@ -165,13 +165,13 @@ fn single(m: Chip, name: &[u8]) -> Answered {
 fn command(m: Chip, line: &[u8]) -> Answered {
     let name = words::nth(line, 0);
     let count = words::count(line);
-    if text_pairs::same(name, b"beat") {
+    if text_parts::same(name, b"beat") {
         return beat_line(m, line, count);
     }
-    if text_pairs::same(name, b"run") {
+    if text_parts::same(name, b"run") {
         return run_line(m, line, count);
     }
-    if text_pairs::same(name, b"burst") {
+    if text_parts::same(name, b"burst") {
         return burst(m, line, count);
     }
     if count != 1 {

@@ -48,13 +48,13 @@ fn encode_words(line: &[u8]) -> u8 {
 
 // A command on a sheet and a number of beats.
 fn on_beats(name: &[u8], path: &[u8], beats: &[u8]) -> u8 {
-    if text_pairs::same(name, b"run") {
+    if text_parts::same(name, b"run") {
         return runs::run(path, beats, View::State);
     }
-    if text_pairs::same(name, b"show") {
+    if text_parts::same(name, b"show") {
         return runs::run(path, beats, View::Picture);
     }
-    if text_pairs::same(name, b"svg") {
+    if text_parts::same(name, b"svg") {
         return runs::run(path, beats, View::Svg);
     }
     NO_COMMAND
@@ -63,13 +63,13 @@ fn on_beats(name: &[u8], path: &[u8], beats: &[u8]) -> u8 {
 // A command on the words after its name; NO_COMMAND where there is none of this name and this many
 // words.
 fn on_sheet(name: &[u8], line: &[u8], count: usize) -> u8 {
-    if text_pairs::same(name, b"check") && count > 1 {
+    if text_parts::same(name, b"check") && count > 1 {
         return check_all(line, count);
     }
-    if text_pairs::same(name, b"image") && count == 2 {
+    if text_parts::same(name, b"image") && count == 2 {
         return sheets::image(words::nth(line, 1));
     }
-    if text_pairs::same(name, b"sheet") && count == 5 {
+    if text_parts::same(name, b"sheet") && count == 5 {
         return images::sheet(line);
     }
     if count == 3 {
@@ -79,13 +79,13 @@ fn on_sheet(name: &[u8], line: &[u8], count: usize) -> u8 {
 }
 
 fn on_words(name: &[u8], line: &[u8], count: usize) -> u8 {
-    if text_pairs::same(name, b"decode") && count > 1 {
+    if text_parts::same(name, b"decode") && count > 1 {
         return decode_all(line, count);
     }
-    if text_pairs::same(name, b"encode") && count > 1 {
+    if text_parts::same(name, b"encode") && count > 1 {
         return encode_words(line);
     }
-    if text_pairs::same(name, b"help") && count == 1 {
+    if text_parts::same(name, b"help") && count == 1 {
         return help::full();
     }
     if name.len() == 0 && count < 2 {
@@ -113,16 +113,16 @@ fn on_input(
     start: Input,
     among: bool,
 ) -> Ended {
-    if text_pairs::same(name, b"decode") && count == 1 {
+    if text_parts::same(name, b"decode") && count == 1 {
         return lists::answer(Way::Decode, buf, start, among);
     }
-    if text_pairs::same(name, b"encode") && count == 1 {
+    if text_parts::same(name, b"encode") && count == 1 {
         return lists::answer(Way::Encode, buf, start, among);
     }
-    if text_pairs::same(name, b"bench") && count == 1 {
+    if text_parts::same(name, b"bench") && count == 1 {
         return bench::bench(buf, start);
     }
-    if text_pairs::same(name, b"bench") && count == 2 {
+    if text_parts::same(name, b"bench") && count == 2 {
         return bench::bench_with(words::nth(line, 1), buf, start);
     }
     ended(start, unknown())
@@ -174,7 +174,7 @@ fn several(buf: &mut [u8], line: &mut [u8]) -> u8 {
 // The program's command line.
 pub fn run(line: &[u8]) -> u8 {
     let mut buf = io::large_buffer();
-    if text_pairs::same(line, b"-\0") {
+    if text_parts::same(line, b"-\0") {
         let mut words = io::large_buffer();
         return several(&mut buf, &mut words);
     }

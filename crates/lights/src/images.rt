@@ -35,7 +35,7 @@ fn word_part(bytes: &[u8], k: usize, n: usize) -> &[u8] {
     if k > 1000 {
         return &bytes[..0];
     }
-    text_pairs::part_at(bytes, k * 5, mark)
+    text_parts::part_at(bytes, k * 5, mark)
 }
 
 // Reads word k of n into an image; false where it is malformed or there is no room.

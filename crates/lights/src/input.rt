@@ -29,7 +29,7 @@ pub fn none_yet() -> Input {
 
 // The line that begins at the first byte not used, without its LF.
 pub fn line(buf: &[u8], input: Input) -> &[u8] {
-    text_pairs::part_at(until(buf, input.end), input.at, LINE_FEED)
+    text_parts::part_at(until(buf, input.end), input.at, LINE_FEED)
 }
 
 // Where the line ends that is not used yet.
@@ -117,7 +117,7 @@ pub fn is_last(buf: &[u8], input: Input) -> bool {
     if is_over(input) {
         return true;
     }
-    text_pairs::same(line(buf, input), b"quit")
+    text_parts::same(line(buf, input), b"quit")
 }
 
 // The line is used.

@@ -30,7 +30,7 @@ fn number(v: &[u8]) -> u32 {
 
 // What stands after a byte; nothing where it is missing.
 fn after(word: &[u8], mark: u8) -> &[u8] {
-    let n = text_pairs::part_at(word, 0, mark).len();
+    let n = text_parts::part_at(word, 0, mark).len();
     if n < word.len() {
         return &word[n + 1..];
     }
@@ -38,7 +38,7 @@ fn after(word: &[u8], mark: u8) -> &[u8] {
 }
 
 fn read_range(word: &[u8]) -> Range {
-    let a = number(text_pairs::part_at(word, 0, b'-'));
+    let a = number(text_parts::part_at(word, 0, b'-'));
     let b = number(after(word, b'-'));
     if a > 65535 || b > 65535 {
         return Range::Malformed;
@@ -59,10 +59,10 @@ fn with_table(first: u16, last: u16, table: &[u8]) -> Engine {
 }
 
 fn read_engine(word: &[u8]) -> Engine {
-    if text_pairs::same(word, b"-") {
+    if text_parts::same(word, b"-") {
         return Engine::Plan(EnginePlan::Unused);
     }
-    let code = text_pairs::part_at(word, 0, b'/');
+    let code = text_parts::part_at(word, 0, b'/');
     let Range::From(first, last) = read_range(code) else {
         return Engine::Malformed;
     };

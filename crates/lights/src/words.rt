@@ -4,7 +4,7 @@ pub const SEPARATOR: u8 = 0;
 
 // Where the word after the one at a place begins.
 fn after(line: &[u8], at: usize) -> usize {
-    let word = text_pairs::part_at(line, at, SEPARATOR);
+    let word = text_parts::part_at(line, at, SEPARATOR);
     std::num::wrapping_add_usize(std::num::wrapping_add_usize(at, word.len()), 1)
 }
 
@@ -21,7 +21,7 @@ fn place(line: &[u8], n: usize) -> usize {
 
 // Word n, counted from 0; no byte where there is none.
 pub fn nth(line: &[u8], n: usize) -> &[u8] {
-    text_pairs::part_at(line, place(line, n), SEPARATOR)
+    text_parts::part_at(line, place(line, n), SEPARATOR)
 }
 
 // Word n and those after it, with their separators.

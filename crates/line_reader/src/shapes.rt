@@ -15,7 +15,7 @@ fn all_pairs(line: &[u8], from: usize) -> bool
 {
     let mut at = from;
     while at <= line.len() {
-        let part = text_pairs::part_at(line, at, SPACE);
+        let part = text_parts::part_at(line, at, SPACE);
         if !text_pairs::is_pair(part) {
             return false;
         }

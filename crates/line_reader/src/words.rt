@@ -19,7 +19,7 @@ fn place_of(v: &[u8], first: usize, count: usize) -> Value
     while i < count {
         let a = places[first + i] as usize;
         let e = places[first + i + 1] as usize;
-        if text_pairs::same(v, &names[a..e]) {
+        if text_parts::same(v, &names[a..e]) {
             return Value::Number(i as u16);
         }
         i += 1;

@@ -1,12 +1,12 @@
--- `text::parts::index_of` meets its contract. The invariant: the place in the whole is i more than the place in what is left.
+-- `text_parts::pieces::index_of` meets its contract. The invariant: the place in the whole is i more than the place in what is left.
 use Prim.Native.Nat.{_+_, _≤_, _-_}
 use mathlib.Core.Path.{_≡_}
 use native.Mathlib.Omega.{arith}
 use lib.ListN.{length, drop}
 use Rattle.text.specs.Bytes.{indexOf}
 use Rattle.text.proofs.Turns.{index-hit, index-miss, index-end}
-use Rattle.text_pairs.proofs.pieces.index_of.Statement.{statement}
-use Rattle.text_pairs.proofs.pieces.index_of.Tie as tie
+use Rattle.text_parts.proofs.pieces.index_of.Statement.{statement}
+use Rattle.text_parts.proofs.pieces.index_of.Tie as tie
 
 abbrev Inv-loop : tie.InvT-loop
 Inv-loop s d i₀ i = (i ≤ length s) × (indexOf d s ≡ i + indexOf d (drop i s))

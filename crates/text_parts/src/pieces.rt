@@ -19,7 +19,7 @@ pub fn same(a: &[u8], b: &[u8]) -> bool
 }
 
 // The place of the first d, or the length.
-pub(super) fn index_of(s: &[u8], d: u8) -> usize
+fn index_of(s: &[u8], d: u8) -> usize
     ensures { λ r. ⌜ r ≡ indexOf d (now (s .entry)) ⌝ }
 {
     let mut i = 0;

@@ -1,12 +1,12 @@
--- `text::parts::same` meets its contract. The invariant: the texts are the same exactly where what is left of them is.
+-- `text_parts::pieces::same` meets its contract. The invariant: the texts are the same exactly where what is left of them is.
 use Prim.Native.Nat.{_≤_, _-_}
 use mathlib.Core.Path.{_≡_, refl, sym, _∙_}
 use native.Mathlib.Omega.{arith}
 use lib.ListN.{length, drop}
 use Rattle.text.specs.Bytes.{same}
 use Rattle.text.proofs.Turns.{same-hit, same-miss, same-end, same-lengths}
-use Rattle.text_pairs.proofs.pieces.same.Statement.{statement}
-use Rattle.text_pairs.proofs.pieces.same.Tie as tie
+use Rattle.text_parts.proofs.pieces.same.Statement.{statement}
+use Rattle.text_parts.proofs.pieces.same.Tie as tie
 
 abbrev Inv-loop : tie.InvT-loop
 Inv-loop a b i₀ i = (i ≤ length a) × (same a b ≡ same (drop i a) (drop i b))

@@ -1,4 +1,4 @@
--- `text::parts::part_at` meets its contract.
+-- `text_parts::pieces::part_at` meets its contract.
 use Prim.Native.Nat.{ℕ, _-_}
 use mathlib.Core.List.{List}
 use mathlib.Core.Path.{sym, ap, _∙_}
@@ -9,8 +9,8 @@ use lib.Seq.{length-take-le}
 use Rattle.text.specs.Bytes.{indexOf, partAt}
 use Rattle.text.proofs.Turns.{rest-whole}
 use Rattle.text.proofs.Splits.{index-le, part-end}
-use Rattle.text_pairs.proofs.pieces.part_at.Statement.{statement}
-use Rattle.text_pairs.proofs.pieces.part_at.Tie as tie
+use Rattle.text_parts.proofs.pieces.part_at.Statement.{statement}
+use Rattle.text_parts.proofs.pieces.part_at.Tie as tie
 
 slice-aggregate-result-2 : tie.Need-slice-aggregate-result-2
 slice-aggregate-result-2 c =

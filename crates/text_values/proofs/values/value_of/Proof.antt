@@ -1,4 +1,4 @@
--- `text_pairs::pairs::value_of` meets its contract. The invariant: the value in the whole is the value in what is left of key and pair.
+-- `text_values::values::value_of` meets its contract. The invariant: the value in the whole is the value in what is left of key and pair.
 use Prim.Native.Nat.{_+_, _≤_, _-_}
 use mathlib.Core.Path.{_≡_, refl, sym, _∙_}
 use native.Mathlib.Omega.{arith}
@@ -6,8 +6,8 @@ use lib.ListN.{length, drop}
 use borrow.Author.Needs.{needs}
 use Rattle.text.specs.Bytes.{valueOf}
 use Rattle.text.proofs.Turns.{rest-whole, value-short, value-miss, value-hit, value-none, value-other, value-after}
-use Rattle.text_pairs.proofs.pairs.value_of.Statement.{statement}
-use Rattle.text_pairs.proofs.pairs.value_of.Tie as tie
+use Rattle.text_values.proofs.values.value_of.Statement.{statement}
+use Rattle.text_values.proofs.values.value_of.Tie as tie
 
 abbrev Inv-loop : tie.InvT-loop
 Inv-loop pair key i₀ i = (i ≤ length key) × (i ≤ length pair) × (valueOf key pair ≡ valueOf (drop i key) (drop i pair))
