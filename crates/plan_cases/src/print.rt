@@ -1,6 +1,5 @@
-// A case's name and the checker's answer: the number, the engine and the address that document 01
-// gives, zero for what it doesn't give.
-use plan::Plan;
+// The checker's answer: the number, the engine and the address that document 01 gives, zero for what
+// it doesn't give.
 use plan::Verdict;
 use word::Address;
 ghost use mathlib.Core.Path.{_≡_};
@@ -43,12 +42,10 @@ fn print_number(n: u16) {
     io::print_decimal(1, n as u64);
 }
 
-pub fn print_case(name: &[u8], plan: Plan, image: &[u16]) {
-    let a = answer_of(plan_check::check(plan, image));
-    io::write_all(1, name);
+pub fn print_answer(verdict: Verdict) {
+    let a = answer_of(verdict);
     io::write_all(1, b":");
     print_number(a.number);
     print_number(a.engine);
     print_number(a.address);
-    io::write_all(1, b"\n");
 }
