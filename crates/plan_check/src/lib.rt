@@ -2,7 +2,6 @@
 // crate plan's.
 mod checker;
 mod classes;
-mod successors;
 mod table;
 mod table_use;
 mod words;

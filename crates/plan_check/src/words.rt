@@ -1,7 +1,6 @@
 // 13, 14 and 15, word by word upward.
 use super::classes::flow_of;
 use super::classes::table_use_of;
-use super::successors::successors_inside;
 use super::table_use::uses_own_table;
 use plan::EnginePlan;
 use plan::Verdict;
@@ -33,7 +32,7 @@ fn check_word(q: EnginePlan, engine: u16, at: u16, code: u16) -> Verdict
     if is_fault(flow) {
         return Verdict::UndefinedWord { engine, address };
     }
-    if !successors_inside(q, at, flow) {
+    if !plan_successors::successors_inside(q, at, flow) {
         return Verdict::SuccessorOutside { engine, address };
     }
     if !uses_own_table(q, table_use_of(decoded)) {

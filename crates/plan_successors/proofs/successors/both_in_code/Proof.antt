@@ -1,8 +1,8 @@
--- `plan_check::successors::both_in_code` meets its contract.
+-- `plan_successors::successors::both_in_code` meets its contract.
 use borrow.Author.Needs.{needs}
 use Rattle.plan.proofs.Laws.{and-true, failed, passed}
-use Rattle.plan_check.proofs.successors.both_in_code.Statement.{statement}
-use Rattle.plan_check.proofs.successors.both_in_code.Tie as tie
+use Rattle.plan_successors.proofs.successors.both_in_code.Statement.{statement}
+use Rattle.plan_successors.proofs.successors.both_in_code.Tie as tie
 
 pub both-in-code-spec : {M : Type 1} → statement M
 both-in-code-spec =

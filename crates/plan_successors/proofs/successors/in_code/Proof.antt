@@ -1,7 +1,7 @@
--- `plan_check::successors::in_code` meets its contract: each arm knows its case.
+-- `plan_successors::successors::in_code` meets its contract: each arm knows its case.
 use borrow.Author.Needs.{needs}
-use Rattle.plan_check.proofs.successors.in_code.Statement.{statement}
-use Rattle.plan_check.proofs.successors.in_code.Tie as tie
+use Rattle.plan_successors.proofs.successors.in_code.Statement.{statement}
+use Rattle.plan_successors.proofs.successors.in_code.Tie as tie
 
 pub in-code-spec : {M : Type 1} → statement M
 in-code-spec =

@@ -1,4 +1,4 @@
--- `plan_check::successors::branch_inside` meets its contract.
+-- `plan_successors::successors::branch_inside` meets its contract.
 use Prim.Native.Nat.{ℕ, zero, suc}
 use mathlib.Core.Path.{_≡_, refl, sym, _∙_}
 use mathlib.Core.List.{[], _∷_}
@@ -9,8 +9,8 @@ use Rattle.plan.specs.declared.EnginePlan.{EnginePlan}
 use Rattle.plan.specs.Conditions.{unlessEndless}
 use Rattle.plan.specs.Tests.{allIn, inCode}
 use Rattle.plan.proofs.Laws.{and-true}
-use Rattle.plan_check.proofs.successors.branch_inside.Statement.{statement}
-use Rattle.plan_check.proofs.successors.branch_inside.Tie as tie
+use Rattle.plan_successors.proofs.successors.branch_inside.Statement.{statement}
+use Rattle.plan_successors.proofs.successors.branch_inside.Tie as tie
 
 -- with loops=0 the target alone is a successor
 endless : (q : EnginePlan) (t c n : ℕ) {r : Bool} → r ≡ inCode q t → c ≡ 0 → r ≡ allIn (inCode q) (t ∷ unlessEndless c n)

@@ -1,4 +1,4 @@
--- `plan_check::successors::successors_inside` meets its contract: each arm knows its case.
+-- `plan_successors::successors::successors_inside` meets its contract: each arm knows its case.
 use Prim.Native.Nat.{ℕ}
 use mathlib.Core.Path.{_≡_, refl, sym, ap, _∙_}
 use mathlib.Core.Bool.{Bool}
@@ -9,8 +9,8 @@ use Rattle.plan.specs.Ranges.{firstOf}
 use Rattle.plan.specs.Conditions.{successorsOf}
 use Rattle.plan.specs.Tests.{successorsInside, allIn, inCode}
 use Rattle.plan.proofs.Laws.{via, and-true}
-use Rattle.plan_check.proofs.successors.successors_inside.Statement.{statement}
-use Rattle.plan_check.proofs.successors.successors_inside.Tie as tie
+use Rattle.plan_successors.proofs.successors.successors_inside.Statement.{statement}
+use Rattle.plan_successors.proofs.successors.successors_inside.Tie as tie
 
 arm : (q : EnginePlan) (a : ℕ) {f g : Flow} {r : Bool} → r ≡ allIn (inCode q) (successorsOf (firstOf q) a g) → f ≡ g → r ≡ successorsInside q a f
 unfolding successorsInside

@@ -1,8 +1,8 @@
--- `plan_check::successors::in_range` meets its contract.
+-- `plan_successors::successors::in_range` meets its contract.
 use borrow.Author.Tests.{le-leb, lt-leb}
 use borrow.Author.Needs.{needs}
-use Rattle.plan_check.proofs.successors.in_range.Statement.{statement}
-use Rattle.plan_check.proofs.successors.in_range.Tie as tie
+use Rattle.plan_successors.proofs.successors.in_range.Statement.{statement}
+use Rattle.plan_successors.proofs.successors.in_range.Tie as tie
 
 pub in-range-spec : {M : Type 1} → statement M
 in-range-spec =

@@ -1,7 +1,7 @@
--- `plan_check::successors::first_of` meets its contract: each arm knows its case.
+-- `plan_successors::successors::first_of` meets its contract: each arm knows its case.
 use borrow.Author.Needs.{needs}
-use Rattle.plan_check.proofs.successors.first_of.Statement.{statement}
-use Rattle.plan_check.proofs.successors.first_of.Tie as tie
+use Rattle.plan_successors.proofs.successors.first_of.Statement.{statement}
+use Rattle.plan_successors.proofs.successors.first_of.Tie as tie
 
 pub first-of-spec : {M : Type 1} → statement M
 first-of-spec =

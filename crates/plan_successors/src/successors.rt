@@ -78,7 +78,7 @@ fn branch_inside(q: EnginePlan, loops: u16, step: Step, next: u32) -> bool
 }
 
 // 14: every successor lies in the engine's own code.
-pub(super) fn successors_inside(q: EnginePlan, at: u16, flow: Flow) -> bool
+pub fn successors_inside(q: EnginePlan, at: u16, flow: Flow) -> bool
     ensures { λ r. ⌜ r ≡ successorsInside q at flow ⌝ }
 {
     let next = at as u32 + 1;
