@@ -1,8 +1,6 @@
 // What can be said against a plan by itself: document 01's 11 and 12. The definitions are crate plan's.
-mod acceptance;
 mod apart;
 mod order;
 mod ranges;
 
-pub use acceptance::is_accept;
 pub use ranges::check_ranges;

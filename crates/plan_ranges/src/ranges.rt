@@ -1,5 +1,4 @@
 // 11 and 12: what can be said against a plan by itself.
-use super::acceptance::is_accept;
 use super::apart::check_apart;
 use super::order::check_order;
 use plan::Plan;
@@ -13,7 +12,7 @@ pub fn check_ranges(plan: Plan) -> Verdict
     ensures { λ r. ⌜ r ≡ checkRangesOf LP5523 plan ⌝ }
 {
     let order = check_order(plan);
-    if !is_accept(order) {
+    if !plan_acceptance::is_accept(order) {
         return order;
     }
     check_apart(plan)
