@@ -1,9 +1,11 @@
 -- The answers in document 01's terms: each case's number, and the values beside it.
 use Prim.Native.Nat.{ℕ}
-use mathlib.Core.List.{List}
-use Rattle.plan.specs.Verdict.{Report, report, reportOf}
+use mathlib.Core.List.{List, []}
+use Rattle.plan.specs.declared.Report.{Report}
+use Rattle.plan.specs.Verdict.{report, reportOf}
 use Rattle.asm.specs.declared.Assembled.{Assembled}
 use Rattle.asm.specs.declared.Assembled.the-variants.{Program, WrongLength, Malformed, UnknownOp, OutsideField, WrongLineCount, OutOfOrder, CodeMeetsTable}
+use Rattle.asm.specs.declared.LineReport.{LineReport}
 use Rattle.asm.specs.declared.Disassembled.{Disassembled}
 use Rattle.asm.specs.declared.Disassembled.the-variants.{Length, Refused, TooShort}
 use Rattle.asm.specs.Reading.{Sheet, program, refused-at}
@@ -18,6 +20,18 @@ readingOf (OutsideField l) ws = refused-at 22 l
 readingOf WrongLineCount ws = refused-at 23 0
 readingOf OutOfOrder ws = refused-at 11 0
 readingOf CodeMeetsTable ws = refused-at 12 0
+
+-- The number and the line in it, zeros for success.
+abbrev pub numberIn : Sheet → ℕ
+numberIn (program p ws) = 0
+numberIn (refused-at n l) = n
+
+abbrev pub lineIn : Sheet → ℕ
+lineIn (program p ws) = 0
+lineIn (refused-at n l) = l
+
+abbrev pub lineReportOf : Assembled → LineReport
+lineReportOf r = record { number = numberIn (readingOf r []); line = lineIn (readingOf r []) }
 
 -- The disassembler's, as the checker reports; zeros for success.
 abbrev pub writingOf : Disassembled → Report

@@ -20,6 +20,12 @@ pub enum Assembled {
     CodeMeetsTable,
 }
 
+// A refusal of the assembler: its number and line, zeros for success.
+pub struct LineReport {
+    pub number: u16,
+    pub line: u16,
+}
+
 // What the disassembler answers. `writingOf` in specs/Answers.antt gives each case's number.
 pub enum Disassembled {
     Length(usize),

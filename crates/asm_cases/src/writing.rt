@@ -2,8 +2,7 @@
 use super::lent::FILL_BYTE;
 use super::lent::bytes_kept;
 use super::print;
-use super::reports::answer_of;
-use super::reports::print_answer;
+use super::reports::print_written;
 use super::sheet::up_to;
 use super::state::State;
 use asm::Disassembled;
@@ -34,7 +33,7 @@ pub fn write(s: State, sheet: &[u8]) {
     let image = s.image;
     let written = called(s, &image, &mut out);
     let end = length_of(written);
-    print_answer(answer_of(written));
+    print_written(written);
     print::text(b" length=");
     print::size(end);
     print::text(b" rest=");

@@ -3,7 +3,6 @@ use super::files;
 use super::files::File;
 use super::hex;
 use super::hex::Hex;
-use super::numbers;
 use super::plans;
 use super::plans::Planned;
 use super::print;
@@ -66,7 +65,7 @@ fn written(plan: Plan, image: &[u16]) -> u8 {
     let mut sheet = [0u8; LONGEST_SHEET];
     let answer = disassembler::disassemble(plan, image, &mut sheet);
     let Disassembled::Length(n) = answer else {
-        return refusals::of_place(numbers::of_written(answer));
+        return refusals::of_place(sheet_answers::written_report_of(answer));
     };
     print::text(until(&sheet, n));
     status::DONE

@@ -1,8 +1,8 @@
 // Refusals: the number and its place, then a sentence that says what to mend.
-use super::numbers::Line;
-use super::numbers::Place;
 use super::print;
 use super::status;
+use asm::LineReport;
+use plan::Report;
 
 fn end(sentence: &[u8]) -> u8 {
     print::text(b": ");
@@ -25,7 +25,7 @@ fn of_text(number: u16) -> u8 {
     }
 }
 
-pub fn of_sheet(a: Line) -> u8 {
+pub fn of_sheet(a: LineReport) -> u8 {
     print::pair(b"refused ", print::wider(a.number));
     print::pair(b" line=", print::wider(a.line));
     of_text(a.number)
@@ -57,13 +57,13 @@ pub fn of_call(number: u16) -> u8 {
     of_call_number(number)
 }
 
-pub fn begin(a: Place) {
+pub fn begin(a: Report) {
     print::pair(b"refused ", print::wider(a.number));
     print::pair(b" engine=", print::wider(a.engine));
     print::pair(b" address=", print::wider(a.address));
 }
 
-pub fn of_place(a: Place) -> u8 {
+pub fn of_place(a: Report) -> u8 {
     let number = a.number;
     begin(a);
     match number {

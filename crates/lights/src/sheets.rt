@@ -1,8 +1,6 @@
 // Sheets from files: read, checked, and written.
 use super::files;
 use super::files::File;
-use super::numbers;
-use super::numbers::Place;
 use super::print;
 use super::refusals;
 use super::slices::until;
@@ -10,6 +8,7 @@ use super::status;
 use super::strays;
 use asm::Assembled;
 use plan::Plan;
+use plan::Report;
 use plan::Verdict;
 
 // A program, or how asking for it ended.
@@ -21,7 +20,7 @@ pub enum Program {
 fn assembled(sheet: &[u8], image: &mut [u16]) -> Program {
     let read = assembler::assemble(sheet, image);
     let Assembled::Program(plan) = read else {
-        return Program::Ended(refusals::of_sheet(numbers::of_read(read)));
+        return Program::Ended(refusals::of_sheet(sheet_answers::line_report_of(read)));
     };
     Program::Plan(plan)
 }
@@ -54,7 +53,7 @@ fn word_at(image: &[u16], address: u16) -> u16 {
     0
 }
 
-fn refused(plan: Plan, image: &[u16], a: Place) -> u8 {
+fn refused(plan: Plan, image: &[u16], a: Report) -> u8 {
     if a.number != 14 {
         return refusals::of_place(a);
     }
@@ -66,7 +65,7 @@ fn refused(plan: Plan, image: &[u16], a: Place) -> u8 {
 pub fn judge(plan: Plan, image: &[u16]) -> u8 {
     let verdict = plan_check::check(plan, image);
     let Verdict::Accept = verdict else {
-        return refused(plan, image, numbers::of_verdict(verdict));
+        return refused(plan, image, verdicts::report_of(verdict));
     };
     status::DONE
 }

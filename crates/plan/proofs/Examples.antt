@@ -4,7 +4,8 @@ use native.Mathlib.Omega.{arith}
 use Rattle.word.specs.Profile.{LP5523}
 use Rattle.plan.specs.declared.Verdict.{Verdict}
 use Rattle.plan.specs.declared.Verdict.the-variants.{Accept, WrongLength, OutOfOrder, CodeMeetsTable, UndefinedWord, SuccessorOutside, TableMisused, TableNotOpened, ReservedRowBit}
-use Rattle.plan.specs.Verdict.{Report, reportOf}
+use Rattle.plan.specs.declared.Report.{Report}
+use Rattle.plan.specs.Verdict.{reportOf}
 use Rattle.plan.specs.Conditions.{Accepted}
 use Rattle.plan.specs.Check.{firstFailing, checkOf}
 use Rattle.plan.specs.Tests.{successorsInside}

@@ -8,7 +8,8 @@ use Rattle.word.specs.Decode.{addressAt}
 use Rattle.plan.specs.declared.EnginePlan.{EnginePlan}
 use Rattle.plan.specs.declared.EnginePlan.the-variants.{Unused, Code, CodeAndTable}
 use Rattle.plan.specs.declared.Plan.{Plan}
-use Rattle.plan.specs.Verdict.{Report, report, reportOf}
+use Rattle.plan.specs.declared.Report.{Report}
+use Rattle.plan.specs.Verdict.{report, reportOf}
 use Rattle.plan.specs.Check.{checkOf}
 
 abbrev pub code : ℕ → ℕ → EnginePlan

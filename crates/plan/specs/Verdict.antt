@@ -1,13 +1,9 @@
 -- The checker's answer as document 01 gives it: the number of its refusal, zero for success, and the engine and the address, zero where
 -- document 01 gives none ("The plan and the checker", "Numbers of refusal").
 use Prim.Native.Nat.{ℕ}
+use Rattle.plan.specs.declared.Report.{Report}
 use Rattle.plan.specs.declared.Verdict.{Verdict}
 use Rattle.plan.specs.declared.Verdict.the-variants.{Accept, WrongLength, OutOfOrder, CodeMeetsTable, UndefinedWord, SuccessorOutside, TableMisused, TableNotOpened, ReservedRowBit}
-
-pub record Report : Type 0 where
-  pub number : ℕ
-  pub engine : ℕ
-  pub address : ℕ
 
 abbrev pub report : ℕ → ℕ → ℕ → Report
 report n i a = record { number = n; engine = i; address = a }

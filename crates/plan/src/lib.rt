@@ -44,3 +44,11 @@ pub enum Verdict {
     // a table row with a bit that is no output's
     ReservedRowBit { engine: u16, address: Address },
 }
+
+// A verdict as document 01 reports it: its number, the engine and the address, zero for what it doesn't
+// give.
+pub struct Report {
+    pub number: u16,
+    pub engine: u16,
+    pub address: u16,
+}

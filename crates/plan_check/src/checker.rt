@@ -21,7 +21,7 @@ fn check_engine(q: EnginePlan, engine: u16, image: &[u16]) -> Verdict
     ensures { λ r. ⌜ r ≡ engineVerdict LP5523 q engine (now (image .entry)) ⌝ }
 {
     let verdict = check_code(q, engine, image);
-    if !plan_acceptance::is_accept(verdict) {
+    if !verdicts::is_accept(verdict) {
         return verdict;
     }
     check_table(q, engine, image)
@@ -33,12 +33,12 @@ fn check_engines(plan: Plan, image: &[u16]) -> Verdict
 {
     let q1 = plan.engine1;
     let verdict1 = check_engine(q1, 1, image);
-    if !plan_acceptance::is_accept(verdict1) {
+    if !verdicts::is_accept(verdict1) {
         return verdict1;
     }
     let q2 = plan.engine2;
     let verdict2 = check_engine(q2, 2, image);
-    if !plan_acceptance::is_accept(verdict2) {
+    if !verdicts::is_accept(verdict2) {
         return verdict2;
     }
     let q3 = plan.engine3;
@@ -53,7 +53,7 @@ pub fn check(plan: Plan, image: &[u16]) -> Verdict
         return Verdict::WrongLength;
     }
     let ranges = plan_ranges::check_ranges(plan);
-    if !plan_acceptance::is_accept(ranges) {
+    if !verdicts::is_accept(ranges) {
         return ranges;
     }
     check_engines(plan, image)

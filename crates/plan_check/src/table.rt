@@ -74,7 +74,7 @@ fn check_rows(engine: u16, image: &[u16], top: u16, bottom: u16) -> Verdict
     let mut at = top;
     while at <= bottom {
         let verdict = check_row(engine, at, image[at as usize]);
-        if !plan_acceptance::is_accept(verdict) {
+        if !verdicts::is_accept(verdict) {
             return verdict;
         }
         at += 1;

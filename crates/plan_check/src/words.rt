@@ -49,7 +49,7 @@ fn check_words(q: EnginePlan, engine: u16, image: &[u16], first: u16, last: u16)
     let mut at = first;
     while at <= last {
         let verdict = check_word(q, engine, at, image[at as usize]);
-        if !plan_acceptance::is_accept(verdict) {
+        if !verdicts::is_accept(verdict) {
             return verdict;
         }
         at += 1;

@@ -12,7 +12,7 @@ pub fn check_ranges(plan: Plan) -> Verdict
     ensures { λ r. ⌜ r ≡ checkRangesOf LP5523 plan ⌝ }
 {
     let order = check_order(plan);
-    if !plan_acceptance::is_accept(order) {
+    if !verdicts::is_accept(order) {
         return order;
     }
     check_apart(plan)

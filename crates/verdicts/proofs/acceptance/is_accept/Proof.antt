@@ -1,9 +1,9 @@
--- `plan_acceptance::is_accept` meets its contract: where the verdict is not Accept, it is one of the others.
+-- `verdicts::acceptance::is_accept` meets its contract: where the verdict is not Accept, it is one of the others.
 use mathlib.Core.Path.{sym}
 use borrow.Author.Needs.{needs}
 use Rattle.plan.proofs.Laws.{not-accept}
-use Rattle.plan_acceptance.proofs.is_accept.Statement.{statement}
-use Rattle.plan_acceptance.proofs.is_accept.Tie as tie
+use Rattle.verdicts.proofs.acceptance.is_accept.Statement.{statement}
+use Rattle.verdicts.proofs.acceptance.is_accept.Tie as tie
 
 pub is-accept-spec : {M : Type 1} → statement M
 is-accept-spec =

@@ -1,4 +1,4 @@
-// Verdicts, as one part of a checker hands them to the next.
+// Whether a verdict accepts, as one part of a checker asks of the part before it.
 use plan::Verdict;
 ghost use mathlib.Core.Path.{_≡_};
 ghost use Rattle.plan.specs.Passes.{isAccept};
