@@ -1,7 +1,8 @@
 -- `plan_ranges::apart::check_apart` meets its contract.
-use mathlib.Core.Path.{sym, _∙_}
-use borrow.Author.Needs.{needs}
+use mathlib.Core.Path.{refl, sym, ap, _∙_}
+use mathlib.Core.Bool.{not}
 use Rattle.plan.specs.Passes.{apartVerdict}
+use Rattle.plan_ranges.proofs.Turns.{here, later}
 use Rattle.plan_ranges.proofs.apart.check_apart.Statement.{statement}
 use Rattle.plan_ranges.proofs.apart.check_apart.Tie as tie
 
@@ -10,16 +11,18 @@ unfolding apartVerdict
 check-apart-spec =
     tie.close
     (tie.spec
-    (search needs)
-    (λ c. simp (sym (c .before .meets-some .ensures) ∙ c .if1 .taken))
-    (search needs)
-    (λ c. simp (sym (c .before .before .before .meets-some .ensures) ∙ c .before .before .if1 .left, sym (c .before .meets-some2 .ensures) ∙ c .if2 .taken))
-    (search needs)
+    (λ c κs. tt)
+    (λ c. here _ (ap not (sym (c .before .meets-some .ensures) ∙ c .if1 .taken)))
+    (λ c κs. tt)
+    (λ c.
+    let c2 = c .before .before in
+    later _ (ap not (sym (c2 .before .meets-some .ensures) ∙ c2 .if1 .left)) (here _ (ap not (sym (c .before .meets-some2 .ensures) ∙ c .if2 .taken))))
+    (λ c κs. tt)
     (λ c.
     let c2 = c .before .before in let c3 = c2 .before in let c4 = c3 .before in let c5 = c4 .before in
-    simp
-    (sym (c5 .meets-some .ensures) ∙ c4 .if1 .left, sym (c3 .meets-some2 .ensures) ∙ c2 .if2 .left, sym (c .before .meets-some3 .ensures) ∙ c .if3 .taken))
+    later _ (ap not (sym (c5 .meets-some .ensures) ∙ c4 .if1 .left))
+    (later _ (ap not (sym (c3 .meets-some2 .ensures) ∙ c2 .if2 .left)) (here _ (ap not (sym (c .before .meets-some3 .ensures) ∙ c .if3 .taken)))))
     (λ c.
     let c2 = c .before .before in let c3 = c2 .before in let c4 = c3 .before in let c5 = c4 .before in
-    simp
-    (sym (c5 .meets-some .ensures) ∙ c4 .if1 .left, sym (c3 .meets-some2 .ensures) ∙ c2 .if2 .left, sym (c .before .meets-some3 .ensures) ∙ c .if3 .left)))
+    later _ (ap not (sym (c5 .meets-some .ensures) ∙ c4 .if1 .left))
+    (later _ (ap not (sym (c3 .meets-some2 .ensures) ∙ c2 .if2 .left)) (later _ (ap not (sym (c .before .meets-some3 .ensures) ∙ c .if3 .left)) refl))))

@@ -1,7 +1,8 @@
 -- `plan_ranges::order::check_order` meets its contract.
-use borrow.Author.Needs.{needs}
+use mathlib.Core.Path.{refl}
 use Rattle.plan.specs.Passes.{orderVerdict}
 use Rattle.plan.proofs.Laws.{failed, passed}
+use Rattle.plan_ranges.proofs.Turns.{here, later}
 use Rattle.plan_ranges.proofs.order.check_order.Statement.{statement}
 use Rattle.plan_ranges.proofs.order.check_order.Tie as tie
 
@@ -10,16 +11,18 @@ unfolding orderVerdict
 check-order-spec =
     tie.close
     (tie.spec
-    (search needs)
-    (λ c. simp (failed (c .before .in-order .ensures) (c .if1 .taken)))
-    (search needs)
-    (λ c. simp (passed (c .before .before .before .in-order .ensures) (c .before .before .if1 .left), failed (c .before .in-order2 .ensures) (c .if2 .taken)))
-    (search needs)
+    (λ c κs. tt)
+    (λ c. here _ (failed (c .before .in-order .ensures) (c .if1 .taken)))
+    (λ c κs. tt)
+    (λ c.
+    let c2 = c .before .before in
+    later _ (passed (c2 .before .in-order .ensures) (c2 .if1 .left)) (here _ (failed (c .before .in-order2 .ensures) (c .if2 .taken))))
+    (λ c κs. tt)
     (λ c.
     let c2 = c .before .before in let c3 = c2 .before in let c4 = c3 .before in let c5 = c4 .before in
-    simp
-    (passed (c5 .in-order .ensures) (c4 .if1 .left), passed (c3 .in-order2 .ensures) (c2 .if2 .left), failed (c .before .in-order3 .ensures) (c .if3 .taken)))
+    later _ (passed (c5 .in-order .ensures) (c4 .if1 .left))
+    (later _ (passed (c3 .in-order2 .ensures) (c2 .if2 .left)) (here _ (failed (c .before .in-order3 .ensures) (c .if3 .taken)))))
     (λ c.
     let c2 = c .before .before in let c3 = c2 .before in let c4 = c3 .before in let c5 = c4 .before in
-    simp
-    (passed (c5 .in-order .ensures) (c4 .if1 .left), passed (c3 .in-order2 .ensures) (c2 .if2 .left), passed (c .before .in-order3 .ensures) (c .if3 .left))))
+    later _ (passed (c5 .in-order .ensures) (c4 .if1 .left))
+    (later _ (passed (c3 .in-order2 .ensures) (c2 .if2 .left)) (later _ (passed (c .before .in-order3 .ensures) (c .if3 .left)) refl))))
