@@ -73,7 +73,8 @@ const NEIGHBOURS: [u16; 24] = [
     0xFFFF,
 ];
 
-fn each_decoded(codes: &[u16]) {
+fn each_decoded(title: &[u8], codes: &[u16]) {
+    io::write_all(1, title);
     let mut i = 0;
     while i < codes.len() {
         decoded(codes[i]);
@@ -89,12 +90,8 @@ fn main() {
         b"\nedges: operands in the order of the sheet line, up is 0, A is 0\n",
     );
     edges::all_edges();
-    io::write_all(1, b"\ndocument 01, cases\n");
-    each_decoded(&SCOPE_CASES);
-    io::write_all(1, b"\ndocument 001, worked program\n");
-    each_decoded(&WORKED_PROGRAM);
-    io::write_all(1, b"\ndocuments 004 and 001, examples\n");
-    each_decoded(&SHEET_EXAMPLES);
-    io::write_all(1, b"\nbeside a word\n");
-    each_decoded(&NEIGHBOURS);
+    each_decoded(b"\ndocument 01, cases\n", &SCOPE_CASES);
+    each_decoded(b"\ndocument 001, worked program\n", &WORKED_PROGRAM);
+    each_decoded(b"\ndocuments 004 and 001, examples\n", &SHEET_EXAMPLES);
+    each_decoded(b"\nbeside a word\n", &NEIGHBOURS);
 }

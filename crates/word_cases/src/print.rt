@@ -3,10 +3,7 @@ use parts::parts_of;
 use word::Coded;
 use word::Word;
 
-// How many operations there are, with Undefined as the last.
-pub const KINDS: u16 = 32;
-
-// How many operands each operation has.
+// How many operands each operation has, with Undefined as the last.
 const OPERANDS: [u16; 32] = [
     0,
     4,
@@ -64,7 +61,7 @@ fn print_name(names: &[u8], place: u16) {
     }
 }
 
-// An operation's name, by its place in document 01's table.
+// An operation's name, by its place in document 01's table; after them, what else codes are counted by.
 pub fn print_kind(kind: u16) {
     if kind < 16 {
         print_name(
@@ -74,7 +71,7 @@ pub fn print_kind(kind: u16) {
         return;
     }
     print_name(
-        b"mux-map-start mux-ld-end mux-ld-start mux-ld-addr mux-map-addr mux-clr mux-sel mux-map-next mux-ld-next mux-map-prev mux-ld-prev branch end int trigger undefined ",
+        b"mux-map-start mux-ld-end mux-ld-start mux-ld-addr mux-map-addr mux-clr mux-sel mux-map-next mux-ld-next mux-map-prev mux-ld-prev branch end int trigger undefined defined encoded-back ",
         kind - 16,
     );
 }

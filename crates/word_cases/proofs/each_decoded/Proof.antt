@@ -1,16 +1,15 @@
 -- `word_cases::each_decoded` is safe and ends. Assumes nothing.
 use Prim.Native.Nat.{_-_}
 use native.Mathlib.Omega.{arith}
-use borrow.Author.Needs.{needs}
 use lib.ListN.{length}
 use Rattle.word_cases.proofs.each_decoded.Statement.{statement}
 use Rattle.word_cases.proofs.each_decoded.Tie as tie
 
 abbrev Inv-loop : tie.InvT-loop
-Inv-loop codes i₀ i = Unit {0}
+Inv-loop title codes i₀ i = Unit {0}
 
 abbrev μ-loop : tie.MeasureT-loop
-μ-loop codes i₀ i = length codes - i
+μ-loop title codes i₀ i = length codes - i
 
 pub each-decoded-spec : {M : Type 1} → statement M
 each-decoded-spec =
@@ -18,10 +17,11 @@ each-decoded-spec =
     (tie.spec
     Inv-loop
     μ-loop
+    (λ c κs. tt)
     (λ c. tt)
     (λ c. omega arith)
     (λ c. omega arith)
-    (λ c κs. search needs)
+    (λ c κs. tt)
     (λ c. omega arith)
     (λ c. omega arith)
     (λ c. tt)
