@@ -1,12 +1,15 @@
 -- The tables of the source, as lists; and that the grammar's lists are what they say, each by one computation.
-use Prim.Native.Nat.{ℕ, zero, suc, _+_, _-_, _<_, _≤_}
+use Prim.Native.Nat.{ℕ, zero, suc, _+_, _-_, _*_, _<_, _≤_}
 use mathlib.Core.Bool.{Bool, true, false, cond, _&&_}
 use mathlib.Core.List.{List, [], _∷_, map}
 use mathlib.Core.Path.{_≡_, refl, sym, ap, subst, _∙_}
 use native.Mathlib.Nat.{le-of-suc-le-suc, not-suc-le-zero}
 use native.Mathlib.Omega.{arith}
+use borrow.Author.Needs.{fits-under}
 use lib.Dec.{T, eqb, leb, ltb, leb→le}
 use lib.ListN.{length, getD, take, drop, List·getD-append}
+use mir.Syntax.{w64}
+use mir.Val.{Fits}
 use Rattle.word.specs.Field.{Range, _to_}
 use Rattle.word.specs.Profile.{LP5523}
 use Rattle.grammar.specs.Form.{Kind, number, word, decision, answers, Pair}
@@ -99,6 +102,21 @@ inOrderFrom a n f g t k h l =
     let e : a + (k - a) ≡ k = omega arith in
     subst (λ (j : ℕ). f j ≤ g j) e (inOrder n (λ i. f (a + i)) (λ i. g (a + i)) t (k - a) (omega arith))
 
+-- A place that is in a table of m is in one of k, and so is the next, where k is as large, and larger.
+pub in-table : {n m k : ℕ} → n < m → T (leb m k) → n < k
+in-table {n} {m} {k} h t =
+    let l = leb→le m k t in
+    omega arith
+
+pub next-in-table : (n : ℕ) {m k : ℕ} → n < m → T (ltb m k) → n + 1 < k
+next-in-table n {m} {k} h t =
+    let l = leb→le (suc m) k t in
+    omega arith
+
+-- Where an entry of two bytes begins, in bytes.
+pub scaled : (n : ℕ) → n < 65 → Fits w64 (n * 2)
+scaled n h = omega arith
+
 -- ---- names
 
 -- The part of NAMES that the name k is.
@@ -112,6 +130,10 @@ name-starts = inOrder 64 (λ k. getD nameAt k 0) (λ k. getD nameAt (k + 1) 0) t
 pub name-ends : (k : ℕ) → k < 64 → getD nameAt (k + 1) 0 ≤ 337
 unfolding nameAt
 name-ends = inOrder 64 (λ k. getD nameAt (k + 1) 0) (λ k. 337) tt
+
+pub name-fits : (k : ℕ) → k < 65 → Fits w64 (getD nameAt k 0)
+unfolding nameAt
+name-fits k h = fits-under w64 _ 338 (inOrder 65 (λ k. suc (getD nameAt k 0)) (λ k. 338) tt k h) tt
 
 names-are : names ≡ tabulate 64 namePart
 unfolding names opNames keys nameBytes nameAt
@@ -177,6 +199,14 @@ pub words-within : (k : ℕ) → k < 4 → getD wordFirst k 0 + getD wordCount k
 unfolding wordFirst wordCount
 words-within = inOrder 4 (λ k. getD wordFirst k 0 + getD wordCount k 0) (λ k. 64) tt
 
+pub first-fits : (k : ℕ) → k < 4 → Fits w64 (getD wordFirst k 0)
+unfolding wordFirst
+first-fits k h = fits-under w64 _ 64 (inOrder 4 (λ k. suc (getD wordFirst k 0)) (λ k. 64) tt k h) tt
+
+pub count-fits : (k : ℕ) → k < 4 → Fits w64 (getD wordCount k 0)
+unfolding wordCount
+count-fits k h = fits-under w64 _ 64 (inOrder 4 (λ k. suc (getD wordCount k 0)) (λ k. 64) tt k h) tt
+
 -- ---- pairs and forms
 
 abbrev pub pairTable : ℕ → Pair
@@ -202,6 +232,12 @@ pub pair-kinds : (k : ℕ) → k < 71 → getD pairKind k 0 < 16
 unfolding pairKind
 pair-kinds = inOrder 71 (λ k. suc (getD pairKind k 0)) (λ k. 16) tt
 
+pub key-fits : (k : ℕ) → k < 71 → Fits w64 (getD pairKey k 0)
+key-fits k h = fits-under w64 _ 64 (pair-keys k h) tt
+
+pub kind-fits : (k : ℕ) → k < 71 → Fits w64 (getD pairKind k 0)
+kind-fits k h = fits-under w64 _ 16 (pair-kinds k h) tt
+
 -- The pairs of the form k.
 abbrev pub formTable : ℕ → List Pair
 formTable k = take (getD formAt (k + 1) 0 - getD formAt k 0) (drop (getD formAt k 0) pairs)
@@ -221,6 +257,10 @@ form-starts = inOrder 34 (λ k. getD formAt k 0) (λ k. getD formAt (k + 1) 0) t
 pub form-ends : (k : ℕ) → k < 35 → getD formAt k 0 ≤ 71
 unfolding formAt
 form-ends = inOrder 35 (λ k. getD formAt k 0) (λ k. 71) tt
+
+pub form-fits : (k : ℕ) → k < 35 → Fits w64 (getD formAt k 0)
+unfolding formAt
+form-fits k h = fits-under w64 _ 72 (inOrder 35 (λ k. suc (getD formAt k 0)) (λ k. 72) tt k h) tt
 
 -- No form has more pairs than there are values; that of an operation has one less, for the operation itself.
 pub form-sizes : (k : ℕ) → k < 34 → getD formAt (k + 1) 0 ≤ getD formAt k 0 + 7

@@ -2,9 +2,8 @@
 use Prim.Native.Nat.{_<_}
 use mathlib.Core.Logic.{_⊎_, ⊎-elim, inl, inr}
 use mathlib.Core.Path.{sym}
-use borrow.Author.Needs.{needs}
 use lib.ListN.{getD}
-use Rattle.grammar.proofs.Tables.{low, high, alsoLow, alsoHigh}
+use Rattle.grammar.proofs.Tables.{in-table, scaled, low, high, alsoLow, alsoHigh}
 use Rattle.grammar.proofs.Ranges.{in-first, in-second, in-none}
 use Rattle.line_reader.proofs.kinds.in_ranges.Statement.{statement}
 use Rattle.line_reader.proofs.kinds.in_ranges.Tie as tie
@@ -36,14 +35,14 @@ pub in-ranges-spec : {M : Type 1} → statement M
 in-ranges-spec =
     tie.close
     (tie.spec
-    (search needs)
-    (search needs)
-    (search needs)
-    (search needs)
+    (λ c. scaled _ (in-table (c .pre) tt))
+    (λ c. c .pre)
+    (λ c. scaled _ (in-table (c .before .pre) tt))
+    (λ c. c .before .pre)
     returns
-    (search needs)
-    (search needs)
-    (search needs)
-    (search needs)
+    (λ c. scaled _ (in-table (c .before .pre) tt))
+    (λ c. c .before .pre)
+    (λ c. scaled _ (in-table (c .before .before .pre) tt))
+    (λ c. c .before .before .pre)
     returns-2
     returns-3)

@@ -1,10 +1,8 @@
 -- `line_reader::kinds::read_value` meets its contract.
-use Prim.Native.Nat.{_+_, _-_, _≤_}
+use Prim.Native.Nat.{ℕ, _-_, _≤_, _<_}
 use mathlib.Core.Path.{sym, _∙_}
 use native.Mathlib.Omega.{arith}
-use borrow.Author.Needs.{needs}
-use lib.ListN.{getD}
-use Rattle.grammar.proofs.Tables.{wordFirst, wordCount, words-within}
+use Rattle.grammar.proofs.Tables.{wordFirst, wordCount, words-within, first-fits, count-fits}
 use Rattle.grammar.proofs.Ranges.{number-value, word-value}
 use Rattle.line_reader.proofs.kinds.read_value.Statement.{statement}
 use Rattle.line_reader.proofs.kinds.read_value.Tie as tie
@@ -14,21 +12,24 @@ returns c =
     let a = c .before .before .before .args in
     c .number-of .ensures ∙ sym (number-value (a .kind) (a .v .now) (c .before .if1 .taken))
 
--- the words of the kind are among the names
-within : (c : tie.Else1) → getD wordFirst (c .before .before .args .kind - 12) 0 + getD wordCount (c .before .before .args .kind - 12) 0 ≤ 64
-within c = words-within (c .before .before .args .kind - 12) (omega (arith, c .before .before .pre))
+-- a kind that is none of numbers has its words in the tables
+listed : {k : ℕ} → k < 16 → 12 ≤ k → k - 12 < 4
+listed h l = omega arith
+
+at : (c : tie.Else1) → c .before .before .args .kind - 12 < 4
+at c = listed (c .before .before .pre) (c .if1 .left)
 
 cast-read-word : tie.Need-cast-read-word
-unfolding wordFirst wordCount
-cast-read-word c = omega (arith, within c)
+unfolding wordFirst
+cast-read-word c = first-fits _ (at c)
 
 cast-read-word-2 : tie.Need-cast-read-word-2
-unfolding wordFirst wordCount
-cast-read-word-2 c = omega (arith, within c)
+unfolding wordCount
+cast-read-word-2 c = count-fits _ (at c)
 
 read-word-requires : tie.Need-read-word-requires
 unfolding wordFirst wordCount
-read-word-requires c κs = within c
+read-word-requires c κs = words-within _ (at c)
 
 returns-2 : tie.Need-returns-2
 unfolding wordFirst wordCount
@@ -40,11 +41,11 @@ pub read-value-spec : {M : Type 1} → statement M
 read-value-spec =
     tie.close
     (tie.spec
-    (search needs)
+    (λ c κs. c .if1 .taken)
     returns
-    (search needs)
+    at
     cast-read-word
-    (search needs)
+    at
     cast-read-word-2
     read-word-requires
     returns-2)

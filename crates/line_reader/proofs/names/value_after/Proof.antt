@@ -1,23 +1,21 @@
 -- `line_reader::names::value_after` meets its contract.
-use Prim.Native.Nat.{ℕ}
+use Prim.Native.Nat.{ℕ, _+_}
 use mathlib.Core.List.{List}
 use mathlib.Core.Path.{sym, ap, _∙_}
-use native.Mathlib.Omega.{arith}
-use borrow.Author.Needs.{needs}
+use borrow.Author.Needs.{fits-under}
+use mir.Syntax.{w64}
 use Rattle.text.specs.Bytes.{valueOf}
-use Rattle.grammar.proofs.Tables.{nameBytes, nameAt, name-starts, name-ends, name-is}
+use Rattle.grammar.proofs.Tables.{in-table, next-in-table, scaled, nameBytes, nameAt, name-starts, name-ends, name-fits, name-is}
 use Rattle.line_reader.proofs.names.value_after.Statement.{statement}
 use Rattle.line_reader.proofs.names.value_after.Tie as tie
 
 cast-a : tie.Need-cast-a
 unfolding nameAt
-cast-a c =
-    let s = c .before in
-    omega (arith, name-starts (s .args .k) (s .pre), name-ends (s .args .k) (s .pre))
+cast-a c = name-fits (c .before .args .k) (in-table (c .before .pre) tt)
 
 cast-e : tie.Need-cast-e
 unfolding nameAt
-cast-e c = omega (arith, name-ends (c .before .args .k) (c .before .pre))
+cast-e c = name-fits (c .before .args .k + 1) (next-in-table _ (c .before .pre) tt)
 
 sub-value-of : tie.Need-sub-value-of
 unfolding nameAt
@@ -41,15 +39,15 @@ pub value-after-spec : {M : Type 1} → statement M
 value-after-spec =
     tie.close
     (tie.spec
-    (search needs)
-    (search needs)
+    (λ c. scaled _ (in-table (c .before .pre) tt))
+    (λ c. in-table (c .before .pre) tt)
     cast-a
-    (search needs)
-    (search needs)
-    (search needs)
+    (λ c. fits-under w64 _ 65 (next-in-table _ (c .before .pre) tt) tt)
+    (λ c. scaled _ (next-in-table _ (c .before .pre) tt))
+    (λ c. next-in-table _ (c .before .pre) tt)
     cast-e
     sub-value-of
     part-value-of-start
     part-value-of-end
-    (search needs)
+    (λ c κs. tt)
     returns)

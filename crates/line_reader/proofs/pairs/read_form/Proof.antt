@@ -2,25 +2,25 @@
 use Prim.Native.Nat.{_+_}
 use mathlib.Core.List.{List}
 use mathlib.Core.Path.{sym, ap, _∙_}
-use native.Mathlib.Omega.{arith}
-use borrow.Author.Needs.{needs}
+use borrow.Author.Needs.{fits-under}
+use mir.Syntax.{w64}
 use Rattle.grammar.specs.Form.{Pair, readForm}
 use Rattle.grammar.specs.Tables.{partsFrom, lineReadOf}
-use Rattle.grammar.proofs.Tables.{formAt, form-is, form-ends}
+use Rattle.grammar.proofs.Tables.{in-table, next-in-table, formAt, form-is, form-ends, form-fits}
 use Rattle.line_reader.proofs.pairs.read_form.Statement.{statement}
 use Rattle.line_reader.proofs.pairs.read_form.Tie as tie
 
 cast-read-pairs : tie.Need-cast-read-pairs
 unfolding formAt
-cast-read-pairs c = omega (arith, form-ends (c .before .args .form) (omega (arith, c .before .pre)))
+cast-read-pairs c = form-fits (c .before .args .form) (in-table (c .before .pre) tt)
 
 cast-read-pairs-2 : tie.Need-cast-read-pairs-2
 unfolding formAt
-cast-read-pairs-2 c = omega (arith, form-ends (c .before .args .form + 1) (omega (arith, c .before .pre)))
+cast-read-pairs-2 c = form-fits (c .before .args .form + 1) (next-in-table _ (c .before .pre) tt)
 
 read-pairs-requires : tie.Need-read-pairs-requires
 unfolding formAt
-read-pairs-requires c κs = form-ends (c .before .args .form + 1) (omega (arith, c .before .pre))
+read-pairs-requires c κs = form-ends (c .before .args .form + 1) (next-in-table _ (c .before .pre) tt)
 
 returns : tie.Need-returns
 unfolding formAt
@@ -33,10 +33,10 @@ pub read-form-spec : {M : Type 1} → statement M
 read-form-spec =
     tie.close
     (tie.spec
-    (search needs)
+    (λ c. in-table (c .before .pre) tt)
     cast-read-pairs
-    (search needs)
-    (search needs)
+    (λ c. fits-under w64 _ 35 (next-in-table _ (c .before .pre) tt) tt)
+    (λ c. next-in-table _ (c .before .pre) tt)
     cast-read-pairs-2
     read-pairs-requires
     returns)

@@ -1,21 +1,19 @@
 -- `line_reader::pairs::read_pair` meets its contract.
 use mathlib.Core.Path.{sym, ap, _∙_}
-use native.Mathlib.Omega.{arith}
-use borrow.Author.Needs.{needs}
 use lib.ListN.{getD}
 use Rattle.grammar.specs.Form.{Pair, readPair, readValue}
 use Rattle.grammar.specs.Tables.{kindAt}
-use Rattle.grammar.proofs.Tables.{pairKey, pairKind, pair-is, pair-keys, pair-kinds}
+use Rattle.grammar.proofs.Tables.{pairKey, pairKind, pair-is, pair-keys, pair-kinds, key-fits, kind-fits}
 use Rattle.line_reader.proofs.pairs.read_pair.Statement.{statement}
 use Rattle.line_reader.proofs.pairs.read_pair.Tie as tie
 
 cast-key : tie.Need-cast-key
 unfolding pairKey
-cast-key c = omega (arith, pair-keys (c .before .args .pair) (c .before .pre))
+cast-key c = key-fits (c .before .args .pair) (c .before .pre)
 
 cast-kind : tie.Need-cast-kind
 unfolding pairKind
-cast-kind c = omega (arith, pair-kinds (c .before .args .pair) (c .before .pre))
+cast-kind c = kind-fits (c .before .args .pair) (c .before .pre)
 
 value-after-requires : tie.Need-value-after-requires
 unfolding pairKey
@@ -37,9 +35,9 @@ pub read-pair-spec : {M : Type 1} → statement M
 read-pair-spec =
     tie.close
     (tie.spec
-    (search needs)
+    (λ c. c .before .pre)
     cast-key
-    (search needs)
+    (λ c. c .before .pre)
     cast-kind
     value-after-requires
     read-value-requires

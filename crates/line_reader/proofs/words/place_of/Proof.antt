@@ -4,11 +4,13 @@ use mathlib.Core.Bool.{true, false}
 use mathlib.Core.List.{[]}
 use mathlib.Core.Path.{_≡_, refl, sym, ap, _∙_}
 use native.Mathlib.Omega.{arith}
+use borrow.Author.Needs.{fits-under}
 use lib.ListN.{getD, drop}
+use mir.Syntax.{w64}
 use Rattle.text.specs.Bytes.{same}
 use Rattle.grammar.specs.Form.{placeOf}
 use Rattle.grammar.specs.Tables.{names}
-use Rattle.grammar.proofs.Tables.{nameBytes, nameAt, name-starts, name-ends, name-is}
+use Rattle.grammar.proofs.Tables.{in-table, next-in-table, scaled, nameBytes, nameAt, name-starts, name-ends, name-fits, name-is}
 use Rattle.line_reader.proofs.Walk.{wordsFrom, place-step, place-end}
 use Rattle.line_reader.proofs.words.place_of.Statement.{statement}
 use Rattle.line_reader.proofs.words.place_of.Tie as tie
@@ -39,13 +41,11 @@ verdict c =
 
 cast-a : tie.Need-cast-a Inv-loop μ-loop
 unfolding nameAt
-cast-a c =
-    let k = place c in
-    omega (arith, name-starts k (place-is c), name-ends k (place-is c))
+cast-a c = name-fits (place c) (in-table (place-is c) tt)
 
 cast-e : tie.Need-cast-e Inv-loop μ-loop
 unfolding nameAt
-cast-e c = omega (arith, name-ends (place c) (place-is c))
+cast-e c = name-fits (place c + 1) (next-in-table _ (place-is c) tt)
 
 sub-same : tie.Need-sub-same Inv-loop μ-loop
 unfolding nameAt
@@ -87,14 +87,14 @@ place-of-spec =
     Inv-loop
     μ-loop
     (λ c. (omega arith, refl))
-    (λ c. omega (arith, place-is c))
-    (λ c. omega (arith, place-is c))
-    (λ c. omega (arith, place-is c))
+    (λ c. fits-under w64 _ 64 (place-is c) tt)
+    (λ c. scaled _ (in-table (place-is c) tt))
+    (λ c. in-table (place-is c) tt)
     cast-a
-    (λ c. omega (arith, place-is c))
-    (λ c. omega (arith, place-is c))
-    (λ c. omega (arith, place-is c))
-    (λ c. omega (arith, place-is c))
+    (λ c. fits-under w64 _ 64 (place-is c) tt)
+    (λ c. fits-under w64 _ 65 (next-in-table _ (place-is c) tt) tt)
+    (λ c. scaled _ (next-in-table _ (place-is c) tt))
+    (λ c. next-in-table _ (place-is c) tt)
     cast-e
     sub-same
     part-same-start
