@@ -1,5 +1,7 @@
 -- What the words' code needs of a decoded word's operands: that no number is shortened. `operands-within` of crate word says more.
-use Prim.Native.Nat.{_≤_}
+use Prim.Native.Nat.{ℕ, _≤_}
+use denote.Enum.Declared.{tagOf}
+use Rattle.word.proofs.Word.{the-type}
 use Rattle.word.specs.declared.Word.{Word}
 use Rattle.word.specs.declared.Word.the-variants.{Rst, Ramp, Wait, Set, RampVar, SetVar, BranchVar, Jump, Arith, ArithVar, MuxAt, MuxClr, MuxSel, MuxMove, Branch, End, Int, Trigger, Undefined}
 
@@ -23,3 +25,7 @@ Small (End i z) = Unit {0}
 Small Int = Unit {0}
 Small (Trigger w x) = Unit {0}
 Small Undefined = Unit {0}
+
+-- Word w is number n or a later one in the order of the words in `Word`, counted from 0: the match over them is in parts.
+abbrev pub From : ℕ → Word → Type 0
+From n w = n ≤ tagOf the-type w

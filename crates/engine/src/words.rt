@@ -1,4 +1,5 @@
-// What each word does at its first beat.
+// What each word does at its first beat. The match over all words is in parts, by the order of the
+// words in `Word`: the proof of a part carries what all its arms call.
 use super::branches::branch_var;
 use super::branches::branches;
 use super::levels::puts;
@@ -21,13 +22,81 @@ use super::variables::jump;
 use crate::CoreAct;
 use cores::Core;
 use word::Word;
+ghost use mathlib.Core.List.{List};
 ghost use mathlib.Core.Path.{_≡_};
-ghost use Prim.Native.Nat.{_<_};
+ghost use Prim.Native.Nat.{ℕ, _<_};
 ghost use Rattle.word.specs.Profile.{LP5523};
 ghost use Rattle.machine.specs.Words.{begins};
 ghost use Rattle.cores.specs.Core.{engineOf};
 ghost use Rattle.engine.specs.Act.{actOf};
-ghost use Rattle.engine.specs.Operands.{Small};
+ghost use Rattle.engine.specs.Operands.{Small, From};
+
+// Branches, end, int, triggers and undefined words.
+fn begins_control(k: Core, c: u8, counts: &mut [u8; 96], at: usize, word: Word) -> CoreAct
+    requires { ⌜ (at < 96) × (Small word × From 14 word) ⌝ }
+    ensures { λ r. ⌜ ((d : ℕ) (memory : List ℕ) → actOf r (now (counts .exit)) ≡ begins LP5523 c d memory (engineOf k (now (counts .entry))) at word) ⌝ }
+{
+    match word {
+        Word::Branch { loops, step } => branches(k, counts, c, at, loops as u8, step),
+        Word::End { int, reset } => stops(k, counts, c, int == 1, reset == 1),
+        Word::Int => interrupts(k, c),
+        Word::Trigger { wait, send } => triggers(k, c, wait, send),
+        _ => faults(k, c),
+    }
+}
+
+// Words of the mapping table, and those after them.
+fn begins_table(
+    k: Core,
+    c: u8,
+    memory: &[u16; 96],
+    counts: &mut [u8; 96],
+    at: usize,
+    word: Word,
+) -> CoreAct
+    requires { ⌜ (at < 96) × (Small word × From 10 word) ⌝ }
+    ensures { λ r. ⌜ ((d : ℕ) → actOf r (now (counts .exit)) ≡ begins LP5523 c d (now (memory .entry)) (engineOf k (now (counts .entry))) at word) ⌝ }
+{
+    match word {
+        Word::MuxAt { op, address } => mux_at(k, c, memory, op, address),
+        Word::MuxClr => mux_clr(k, c),
+        Word::MuxSel { output } => mux_sel(k, c, output),
+        Word::MuxMove { op } => mux_move(k, c, memory, op),
+        _ => begins_control(k, c, counts, at, word),
+    }
+}
+
+// Words of the variables, and those after them.
+fn begins_variable(
+    k: Core,
+    c: u8,
+    d: u8,
+    memory: &[u16; 96],
+    counts: &mut [u8; 96],
+    at: usize,
+    word: Word,
+) -> CoreAct
+    requires { ⌜ (at < 96) × (Small word × From 6 word) ⌝ }
+    ensures { λ r. ⌜ actOf r (now (counts .exit)) ≡ begins LP5523 c d (now (memory .entry)) (engineOf k (now (counts .entry))) at word ⌝ }
+{
+    match word {
+        Word::BranchVar { loops, step } => branch_var(k, counts, c, d, at, loops, step),
+        Word::Jump {
+            op,
+            skip,
+            left,
+            right,
+        } => jump(k, c, d, op, skip, left, right),
+        Word::Arith { op, to, value } => arith(k, c, d, op, to, value),
+        Word::ArithVar {
+            op,
+            to,
+            left,
+            right,
+        } => arith_var(k, c, d, op, to, left, right),
+        _ => begins_table(k, c, memory, counts, at, word),
+    }
+}
 
 // The first beat of a word that was fetched at an address of the memory.
 pub(super) fn begins(
@@ -59,28 +128,6 @@ pub(super) fn begins(
             count,
         } => ramp_var(k, c, d, prescale, dir, time, count),
         Word::SetVar { from } => set_var(k, c, d, from),
-        Word::BranchVar { loops, step } => branch_var(k, counts, c, d, at, loops, step),
-        Word::Jump {
-            op,
-            skip,
-            left,
-            right,
-        } => jump(k, c, d, op, skip, left, right),
-        Word::Arith { op, to, value } => arith(k, c, d, op, to, value),
-        Word::ArithVar {
-            op,
-            to,
-            left,
-            right,
-        } => arith_var(k, c, d, op, to, left, right),
-        Word::MuxAt { op, address } => mux_at(k, c, memory, op, address),
-        Word::MuxClr => mux_clr(k, c),
-        Word::MuxSel { output } => mux_sel(k, c, output),
-        Word::MuxMove { op } => mux_move(k, c, memory, op),
-        Word::Branch { loops, step } => branches(k, counts, c, at, loops as u8, step),
-        Word::End { int, reset } => stops(k, counts, c, int == 1, reset == 1),
-        Word::Int => interrupts(k, c),
-        Word::Trigger { wait, send } => triggers(k, c, wait, send),
-        Word::Undefined => faults(k, c),
+        _ => begins_variable(k, c, d, memory, counts, at, word),
     }
 }
