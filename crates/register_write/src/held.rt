@@ -17,14 +17,11 @@ pub(super) fn is_held(engines: [Engine; 3], k: u16) -> bool
     requires { ⌜ k < 9 ⌝ }
     ensures { λ r. ⌜ r ≡ some (λ e. bit (e .mask) k) engines ⌝ }
 {
-    let one = engines[0];
-    if has_bit(one.mask, k) {
+    if has_bit(engines[0].mask, k) {
         return true;
     }
-    let two = engines[1];
-    if has_bit(two.mask, k) {
+    if has_bit(engines[1].mask, k) {
         return true;
     }
-    let three = engines[2];
-    has_bit(three.mask, k)
+    has_bit(engines[2].mask, k)
 }

@@ -21,18 +21,18 @@ is-held-spec =
     (search needs)
     (search needs)
     (λ c.
-    let k = c .before .before .before .args in
+    let k = c .before .before .args in
     let l : length (k .t1) ≡ 3 = search needs in
     first-so (some (has (k .k))) (λ i. has (k .k)) (λ x y z. refl) _ (k .t1) l (c .before .has-bit .ensures) (c .if1 .taken))
     (search needs)
     (search needs)
     (λ c.
-    let c3 = c .before .before .before in let k = c3 .before .before .before .args in
+    let c2 = c .before .before in let k = c2 .before .before .args in
     let l : length (k .t1) ≡ 3 = search needs in
-    second-so (some (has (k .k))) (λ i. has (k .k)) (λ x y z. refl) _ (k .t1) l (c3 .before .has-bit .ensures) (c3 .if1 .left) (c .before .has-bit2 .ensures) (c .if2 .taken))
+    second-so (some (has (k .k))) (λ i. has (k .k)) (λ x y z. refl) _ (k .t1) l (c2 .before .has-bit .ensures) (c2 .if1 .left) (c .before .has-bit2 .ensures) (c .if2 .taken))
     (search needs)
     (search needs)
     (λ c.
-    let c2 = c .before .before in let c5 = c2 .before .before .before in let k = c5 .before .before .before .args in
+    let c1 = c .before in let c3 = c1 .before .before in let k = c3 .before .before .args in
     let l : length (k .t1) ≡ 3 = search needs in
-    third-so (some (has (k .k))) (λ i. has (k .k)) (λ x y z. refl) _ (k .t1) l (c5 .before .has-bit .ensures) (c5 .if1 .left) (c2 .before .has-bit2 .ensures) (c2 .if2 .left) (c .has-bit3 .ensures)))
+    third-so (some (has (k .k))) (λ i. has (k .k)) (λ x y z. refl) _ (k .t1) l (c3 .before .has-bit .ensures) (c3 .if1 .left) (c1 .before .has-bit2 .ensures) (c1 .if2 .left) (c .has-bit3 .ensures)))
