@@ -3,7 +3,7 @@ use super::beats::any;
 use crate::Cores;
 use cores::Core;
 use cores::acts;
-use cores::is_load;
+use engine_state::is_load;
 ghost use mathlib.Core.List.{List};
 ghost use mathlib.Core.Path.{_≡_};
 ghost use Prim.Native.Nat.{ℕ};

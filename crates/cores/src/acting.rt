@@ -1,6 +1,6 @@
 // Whether an engine acts.
-use super::state::mid_word;
 use crate::Core;
+use engine_state::mid_word;
 use machine::Exec;
 use machine::Mode;
 ghost use mathlib.Core.List.{List};

@@ -2,7 +2,6 @@
 // little is copied. It is taken from an engine, put together again, and tells whether it acts.
 mod acting;
 mod split;
-mod state;
 
 pub use acting::acts;
 use machine::Exec;
@@ -11,8 +10,6 @@ use machine::Pointers;
 use machine::Progress;
 pub use split::core_of;
 pub use split::engine_of;
-pub use state::is_load;
-pub use state::mid_word;
 use word::Address;
 use word::Step;
 

@@ -1,7 +1,7 @@
 // What the numbers 4 to 7 ask of the engines.
 use super::fields::mode_of;
-use cores::is_load;
-use cores::mid_word;
+use engine_state::is_load;
+use engine_state::mid_word;
 use machine::Engine;
 use machine::Mode;
 ghost use mathlib.Core.Bool.{_&&_};

@@ -1,4 +1,4 @@
-// What an engine's mode and its word in progress tell.
+// Load mode, and a word in progress.
 use machine::Mode;
 use machine::Progress;
 ghost use mathlib.Core.Path.{_≡_};
