@@ -11,10 +11,11 @@ ghost use Rattle.machine.specs.Interrupts.{readOf};
 fn flags_of(engines: [Engine; 3]) -> [bool; 3]
     ensures { λ r. ⌜ r ≡ map (λ (e : Engine). e .interrupt) engines ⌝ }
 {
-    let one = engines[0];
-    let two = engines[1];
-    let three = engines[2];
-    [one.interrupt, two.interrupt, three.interrupt]
+    [
+        engines[0].interrupt,
+        engines[1].interrupt,
+        engines[2].interrupt,
+    ]
 }
 
 fn lowered(mut e: Engine) -> Engine

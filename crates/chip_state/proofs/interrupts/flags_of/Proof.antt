@@ -16,6 +16,6 @@ flags-of-spec =
     (search needs)
     (search needs)
     (λ c.
-    let es = c .before .before .before .args .t1 in
+    let es = c .args .t1 in
     let l : length es ≡ 3 = search needs in
     sym (ap (map (λ (e : Engine). e .interrupt)) (three _ es l))))
