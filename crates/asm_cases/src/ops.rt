@@ -6,18 +6,7 @@ use super::sheet::up_to;
 use op_lines::WordLine;
 use op_lines::WordWritten;
 ghost use mathlib.Core.Path.{_≡_};
-ghost use Rattle.op_lines.specs.Lines.{answerOf, writtenNumber};
-
-fn read_number(read: WordLine) -> u16
-    ensures { λ r. ⌜ r ≡ answerOf read .number ⌝ }
-{
-    match read {
-        WordLine::Code(_) => 0,
-        WordLine::Malformed => 20,
-        WordLine::UnknownOp => 21,
-        WordLine::OutsideField => 22,
-    }
-}
+ghost use Rattle.op_lines.specs.Lines.{writtenNumber};
 
 fn written_number(written: WordWritten) -> u16
     ensures { λ r. ⌜ r ≡ writtenNumber written ⌝ }
@@ -55,7 +44,7 @@ fn print_again(code: u16, line: &[u8]) {
 pub fn read(line: &[u8]) {
     let read = op_reader::assemble_line(line);
     print::text(b": number=");
-    print::decimal(read_number(read));
+    print::decimal(sheet_answers::op_line_number_of(read));
     let WordLine::Code(code) = read else {
         return;
     };

@@ -6,7 +6,6 @@ use super::names::Call;
 use super::numbers;
 use super::numbers::Numbers;
 use super::outcome::expected;
-use super::outcome::number_of;
 use super::outcome::refusal;
 use super::print;
 use super::state::State;
@@ -19,7 +18,7 @@ fn answered(m: Chip, n: Numbers) -> Chip {
     let written = burst_of(m, numbers::wide(n, 0), n, 1);
     let outcome = written.outcome;
     print::text(b" answer=");
-    print::decimal(number_of(outcome));
+    print::decimal(outcomes::number_of(outcome) as u32);
     written.chip
 }
 

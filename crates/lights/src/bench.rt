@@ -5,7 +5,6 @@ use super::input;
 use super::input::Ended;
 use super::input::Input;
 use super::loading;
-use super::numbers;
 use super::print;
 use super::refusals;
 use super::sheets;
@@ -56,7 +55,7 @@ fn burst_of(m: Chip, first: u16, bytes: &[u8]) -> Answered {
     let outcome = written.outcome;
     let after = written.chip;
     let Outcome::Success = outcome else {
-        return with(after, refusals::of_call(numbers::of_call(outcome)));
+        return with(after, refusals::of_call(outcomes::number_of(outcome)));
     };
     print::text(b"ok\n");
     with(after, status::DONE)

@@ -1,5 +1,4 @@
 // Numbers of beats, and runs.
-use super::numbers;
 use super::print;
 use super::refusals;
 use super::status;
@@ -29,7 +28,7 @@ pub fn not_a_number() -> u8 {
 // A run's counts, or its refusal.
 pub fn print_ran(outcome: Outcome, beats: u32, words: [u32; 3]) -> u8 {
     let Outcome::Success = outcome else {
-        return refusals::of_call(numbers::of_call(outcome));
+        return refusals::of_call(outcomes::number_of(outcome));
     };
     print::pair(b"beats=", beats);
     print::text(b" words=");

@@ -1,5 +1,4 @@
 // A program loaded into a new chip by register writes.
-use super::numbers;
 use super::refusals;
 use machine::Chip;
 use machine::Written;
@@ -25,7 +24,7 @@ const ALL_LOAD: u8 = 21;
 // The chip after a burst of the loading. No accepted program's is refused; were one, that is said.
 fn done(written: Written) -> Chip {
     let outcome = written.outcome;
-    let number = numbers::of_call(outcome);
+    let number = outcomes::number_of(outcome);
     if number != 0 {
         refusals::of_call(number);
     }

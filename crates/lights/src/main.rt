@@ -11,7 +11,6 @@ mod images;
 mod input;
 mod lists;
 mod loading;
-mod numbers;
 mod ops;
 mod picture;
 mod plans;

@@ -1,7 +1,6 @@
 // Words as op lines, and op lines as words.
 use super::hex;
 use super::hex::Hex;
-use super::numbers;
 use super::print;
 use super::refusals;
 use super::slices::until;
@@ -35,7 +34,7 @@ pub fn decode(word: &[u8]) -> u8 {
 pub fn encode(line: &[u8]) -> u8 {
     let read = op_reader::assemble_line(line);
     let WordLine::Code(code) = read else {
-        return refusals::of_op(numbers::of_op(read));
+        return refusals::of_op(sheet_answers::op_line_number_of(read));
     };
     print::hex(code);
     print::text(b"\n");

@@ -1,7 +1,5 @@
-// The host registers' addresses, and whether a write did what it was asked.
+// The host registers' addresses.
 mod listed;
-mod outcome;
 
 pub use listed::is_listed;
 pub use listed::register_at;
-pub use outcome::is_success;

@@ -4,7 +4,7 @@ use super::store::store;
 use machine::Chip;
 use machine::Outcome;
 use machine::Written;
-use register_map::is_success;
+use outcomes::is_success;
 use register_map::register_at;
 ghost use mathlib.Core.List.{[], _∷_};
 ghost use mathlib.Core.Path.{_≡_};

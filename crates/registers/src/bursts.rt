@@ -2,8 +2,8 @@
 use machine::Chip;
 use machine::Outcome;
 use machine::Written;
+use outcomes::is_success;
 use register_map::is_listed;
-use register_map::is_success;
 use register_write::write;
 ghost use mathlib.Core.Bool.{not};
 ghost use mathlib.Core.Path.{_≡_};

@@ -1,22 +1,9 @@
-// The libraries' answers as document 01 numbers them, zero for success.
+// An outcome as document 01 numbers it, zero for success.
 use machine::Outcome;
-use op_lines::WordLine;
 ghost use mathlib.Core.Path.{_≡_};
-ghost use Rattle.op_lines.specs.Lines.{answerOf};
 ghost use Rattle.machine.specs.Outcome.{numberOf};
 
-pub fn of_op(line: WordLine) -> u16
-    ensures { λ r. ⌜ r ≡ answerOf line .number ⌝ }
-{
-    match line {
-        WordLine::Code(_) => 0,
-        WordLine::Malformed => 20,
-        WordLine::UnknownOp => 21,
-        WordLine::OutsideField => 22,
-    }
-}
-
-pub fn of_call(outcome: Outcome) -> u16
+pub fn number_of(outcome: Outcome) -> u16
     ensures { λ r. ⌜ r ≡ numberOf outcome ⌝ }
 {
     match outcome {

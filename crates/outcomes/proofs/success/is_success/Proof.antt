@@ -1,4 +1,4 @@
--- `register_map::outcome::is_success` meets its contract: where the outcome is not Success, it is one of the others.
+-- `outcomes::success::is_success` meets its contract: where the outcome is not Success, it is one of the others.
 use Prim.Native.Nat.{ℕ}
 use mathlib.Core.Bool.{false}
 use mathlib.Core.List.{List, [], _∷_}
@@ -11,8 +11,8 @@ use Rattle.machine.specs.declared.Outcome.{Outcome}
 use Rattle.machine.specs.declared.Outcome.the-variants.{Success, EmptyBurst, UnlistedAddress, OutsideRegister, LoadRefused, StartInUse, MemoryInUse, OutputHeld, TooManyBeats}
 use Rattle.machine.specs.Burst.{succeeds}
 use Rattle.plan.proofs.Laws.{via}
-use Rattle.register_map.proofs.outcome.is_success.Statement.{statement}
-use Rattle.register_map.proofs.outcome.is_success.Tie as tie
+use Rattle.outcomes.proofs.success.is_success.Statement.{statement}
+use Rattle.outcomes.proofs.success.is_success.Tie as tie
 
 -- the variants that no arm names
 abbrev keys : List ℕ
