@@ -93,7 +93,7 @@ fn put_single(out: &mut [u8], at: usize, key: &[u8], n: u16) -> usize
 {
     let sign = text_writing::put_bytes(out, at, key);
     let value = text_writing::put_byte(out, sign, EQUALS_SIGN);
-    text_writing::put_decimal(out, value, n as u32)
+    text_decimals::put_decimal(out, value, n as u32)
 }
 
 // Writes a line with these values, without its LF, as far as the lent bytes reach; answers the place

@@ -1,4 +1,4 @@
--- `text_writing::writing::put_decimal` meets its contract. The number falls at each call.
+-- `text_decimals::writing::put_decimal` meets its contract. The number falls at each call.
 use Prim.Native.Nat.{ℕ, _<_}
 use mathlib.Core.Path.{sym, _∙_}
 use native.Mathlib.Omega.{arith}
@@ -7,12 +7,12 @@ use borrow.Fn.Kinds.{In}
 use borrow.Fn.PlainCycle.{Measures, is, falls, and}
 use Rattle.text.proofs.Puts.{put-append, put-is, put-length}
 use Rattle.text.proofs.Numerals.{decimal-one, decimal-more}
-use Rattle.text_writing.proofs.writing.put_decimal.Reads as put-decimal
-use Rattle.text_writing.proofs.writing.put_decimal.Kinds as put-decimal-kinds
-use Rattle.text_writing.proofs.writing.+put_decimal.Lts-put_decimal as put-decimal-lts
-use Rattle.text_writing.proofs.writing.put_byte.Reads as put-byte-reads
-use Rattle.text_writing.proofs.writing.+put_decimal.{statement}
-use Rattle.text_writing.proofs.writing.+put_decimal.Tie.{close}
+use Rattle.text_decimals.proofs.writing.put_decimal.Reads as put-decimal
+use Rattle.text_decimals.proofs.writing.put_decimal.Kinds as put-decimal-kinds
+use Rattle.text_decimals.proofs.writing.+put_decimal.Lts-put_decimal as put-decimal-lts
+use Rattle.text_writing.proofs.put_byte.Reads as put-byte-reads
+use Rattle.text_decimals.proofs.writing.+put_decimal.{statement}
+use Rattle.text_decimals.proofs.writing.+put_decimal.Tie.{close}
 
 abbrev μ-put-decimal : Measures 1 put-decimal-kinds.ps ℕ
 μ-put-decimal κs a = a .1 .1 .0
