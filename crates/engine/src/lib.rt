@@ -1,7 +1,6 @@
 // One engine's turn: what a beat of its word gives, if it acts. The rules are document 01's, section
 // "A beat"; the definitions are crate machine's. The branch counts are lent.
 mod branches;
-mod core_parts;
 mod durations;
 mod levels;
 mod memory;

@@ -1,12 +1,10 @@
 // rst, end and int, and words that are undefined.
-use super::core_parts::with_fault;
-use super::core_parts::with_interrupt;
-use super::core_parts::with_state;
 use super::word_end::ends;
 use super::word_end::finish;
 use super::word_end::goes_on;
 use crate::CoreAct;
 use cores::Core;
+use cores::Status;
 use machine::Effect;
 use machine::Exec;
 use machine::Mode;
@@ -34,15 +32,21 @@ pub(super) fn restarts(k: Core, counts: &mut [u8; 96], c: u8) -> CoreAct
 }
 
 // The engine after end, with its new PC.
-fn held(k: Core, int: bool, pc: Step) -> Core
+fn held(mut k: Core, int: bool, pc: Step) -> Core
     ensures { λ r. ⌜ ((counts : List ℕ) → engineOf r counts ≡ withExec Hold (finish pc (withInterrupt (k .interrupt || int) (engineOf k counts)))) ⌝ }
 {
-    let f = finish(with_interrupt(k, k.interrupt | int), pc);
+    k.interrupt = k.interrupt | int;
+    let mut f = finish(k, pc);
     let status = f.status;
     let mode = status.mode;
-    let after = f.pc;
     let progress = status.progress;
-    with_state(f, mode, Exec::Hold, after, progress)
+    let stopped = Status {
+        mode,
+        exec: Exec::Hold,
+        progress,
+    };
+    f.status = stopped;
+    f
 }
 
 // The PC that end gives; the counts become 0 if it resets.
@@ -73,24 +77,29 @@ pub(super) fn stops(k: Core, counts: &mut [u8; 96], c: u8, int: bool, reset: boo
 }
 
 // int
-pub(super) fn interrupts(k: Core, c: u8) -> CoreAct
+pub(super) fn interrupts(mut k: Core, c: u8) -> CoreAct
     ensures { λ r. ⌜ ((counts : List ℕ) → actOf r counts ≡ goesOn c (withInterrupt true (engineOf k counts))) ⌝ }
 {
-    goes_on(with_interrupt(k, true), c)
+    k.interrupt = true;
+    goes_on(k, c)
 }
 
 // An undefined word.
-pub(super) fn faults(k: Core, c: u8) -> CoreAct
+pub(super) fn faults(mut k: Core, c: u8) -> CoreAct
     ensures { λ r. ⌜ ((counts : List ℕ) → actOf r counts ≡ faults c (engineOf k counts)) ⌝ }
 {
-    let f = with_fault(k, true);
-    let status = f.status;
+    let status = k.status;
     let exec = status.exec;
-    let pc = f.pc;
     let progress = status.progress;
-    let own = with_state(f, Mode::Halt, exec, pc, progress);
+    let halted = Status {
+        mode: Mode::Halt,
+        exec,
+        progress,
+    };
+    k.status = halted;
+    k.fault = true;
     CoreAct {
-        own,
+        own: k,
         c,
         effect: Effect::Keep,
         send: 0,

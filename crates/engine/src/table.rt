@@ -1,6 +1,4 @@
 // Words that set the mask or the pointers into the mapping table.
-use super::core_parts::with_mask;
-use super::core_parts::with_table;
 use super::memory::word_at;
 use super::word_end::goes_on;
 use crate::CoreAct;
@@ -61,17 +59,21 @@ fn mask_at(memory: &[u16; 96], index: Address) -> u16
     word_at(memory, index.0 as usize) & OUTPUT_BITS
 }
 
-fn loads(k: Core, c: u8, table: Pointers) -> CoreAct
+fn loads(mut k: Core, c: u8, table: Pointers) -> CoreAct
     ensures { λ r. ⌜ ((memory counts : List ℕ) → actOf r counts ≡ points LP5523 c memory (engineOf k counts) false table) ⌝ }
 {
-    goes_on(with_table(k, table), c)
+    k.table = table;
+    goes_on(k, c)
 }
 
-fn maps(k: Core, c: u8, memory: &[u16; 96], table: Pointers) -> CoreAct
+fn maps(mut k: Core, c: u8, memory: &[u16; 96], table: Pointers) -> CoreAct
     ensures { λ r. ⌜ ((counts : List ℕ) → actOf r counts ≡ points LP5523 c (now (memory .entry)) (engineOf k counts) true table) ⌝ }
 {
     let index = table.index;
-    goes_on(with_mask(with_table(k, table), mask_at(memory, index)), c)
+    let mask = mask_at(memory, index);
+    k.table = table;
+    k.mask = mask;
+    goes_on(k, c)
 }
 
 fn start_at(t: Pointers, address: Address) -> Pointers
@@ -146,16 +148,17 @@ pub(super) fn mux_move(k: Core, c: u8, memory: &[u16; 96], op: MuxMoveOp) -> Cor
     }
 }
 
-pub(super) fn mux_sel(k: Core, c: u8, output: u16) -> CoreAct
+pub(super) fn mux_sel(mut k: Core, c: u8, output: u16) -> CoreAct
     requires { ⌜ (1 ≤ output) × (output ≤ 16) ⌝ }
     ensures { λ r. ⌜ ((counts : List ℕ) → actOf r counts ≡ goesOn c (withMask (maskOfOutput LP5523 output) (engineOf k counts))) ⌝ }
 {
-    let mask: u16 = 1 << (output - 1);
-    goes_on(with_mask(k, mask), c)
+    k.mask = 1 << (output - 1);
+    goes_on(k, c)
 }
 
-pub(super) fn mux_clr(k: Core, c: u8) -> CoreAct
+pub(super) fn mux_clr(mut k: Core, c: u8) -> CoreAct
     ensures { λ r. ⌜ ((counts : List ℕ) → actOf r counts ≡ goesOn c (withMask 0 (engineOf k counts))) ⌝ }
 {
-    goes_on(with_mask(k, 0), c)
+    k.mask = 0;
+    goes_on(k, c)
 }

@@ -1,5 +1,4 @@
 // Trigger words.
-use super::core_parts::with_pending;
 use super::word_end::advance;
 use super::word_end::ends;
 use super::word_end::lasts;
@@ -14,14 +13,14 @@ ghost use Rattle.machine.specs.Triggers.{triggers};
 ghost use Rattle.cores.specs.Core.{engineOf};
 ghost use Rattle.engine.specs.Act.{actOf};
 
-pub(super) fn triggers(k: Core, c: u8, wait: u16, send: u16) -> CoreAct
+pub(super) fn triggers(mut k: Core, c: u8, wait: u16, send: u16) -> CoreAct
     ensures { λ r. ⌜ ((counts : List ℕ) → actOf r counts ≡ triggers c (engineOf k counts) wait send) ⌝ }
 {
     let present = k.pending & wait;
     if present == wait {
         let pc = k.pc;
-        let cleared = with_pending(k, k.pending ^ wait);
-        return ends(cleared, c, Effect::Keep, send, advance(pc, 1));
+        k.pending = k.pending ^ wait;
+        return ends(k, c, Effect::Keep, send, advance(pc, 1));
     }
     lasts(k, c, Effect::Keep, Progress::Triggering { wait, send })
 }

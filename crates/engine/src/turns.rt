@@ -1,5 +1,4 @@
 // An engine's turn: a beat of its word, if it acts.
-use super::core_parts::with_pc;
 use super::durations::ramps;
 use super::durations::waits;
 use super::memory::word_at;
@@ -55,10 +54,12 @@ fn fetch_pc(k: Core) -> Step
 
 // The engine fetches its word. One call serves both values of PC: with a call for each, the compiler
 // would keep the core in memory.
-fn fetch(k: Core, c: u8, d: u8, memory: &[u16; 96], counts: &mut [u8; 96]) -> CoreAct
+fn fetch(mut k: Core, c: u8, d: u8, memory: &[u16; 96], counts: &mut [u8; 96]) -> CoreAct
     ensures { λ r. ⌜ actOf r (now (counts .exit)) ≡ starts LP5523 c d (now (memory .entry)) (returned LP5523 (engineOf k (now (counts .entry)))) ⌝ }
 {
-    starts(with_pc(k, fetch_pc(k)), c, d, memory, counts)
+    let pc = fetch_pc(k);
+    k.pc = pc;
+    starts(k, c, d, memory, counts)
 }
 
 // A beat of an engine that acts, by its word in progress.

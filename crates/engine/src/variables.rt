@@ -1,5 +1,4 @@
 // Variables, and the words that compute with them.
-use super::core_parts::with_variables;
 use super::word_end::advance;
 use super::word_end::ends;
 use super::word_end::goes_on;
@@ -33,14 +32,16 @@ pub(super) fn variable(k: Core, c: u8, d: u8, v: u16) -> u8
     d
 }
 
-fn assigns(k: Core, c: u8, v: u16, x: u8) -> CoreAct
+fn assigns(mut k: Core, c: u8, v: u16, x: u8) -> CoreAct
     ensures { λ r. ⌜ ((counts : List ℕ) → actOf r counts ≡ assigns c (engineOf k counts) v x) ⌝ }
 {
     if v == 0 {
-        return goes_on(with_variables(k, x, k.b), c);
+        k.a = x;
+        return goes_on(k, c);
     }
     if v == 1 {
-        return goes_on(with_variables(k, k.a, x), c);
+        k.b = x;
+        return goes_on(k, c);
     }
     if v == 2 {
         return goes_on(k, x);

@@ -1,8 +1,7 @@
 // How a word goes on to its next beat, or ends.
-use super::core_parts::with_progress;
-use super::core_parts::with_state;
 use crate::CoreAct;
 use cores::Core;
+use cores::Status;
 use machine::Effect;
 use machine::Exec;
 use machine::Progress;
@@ -42,20 +41,22 @@ fn exec_after(exec: Exec) -> Exec
     }
 }
 
-pub(super) fn finish(k: Core, pc: Step) -> Core
+pub(super) fn finish(mut k: Core, pc: Step) -> Core
     ensures { λ r. ⌜ ((counts : List ℕ) → engineOf r counts ≡ finish pc (engineOf k counts)) ⌝ }
 {
     let status = k.status;
     let mode = status.mode;
     let exec = status.exec;
     let old = k.pc;
-    with_state(
-        k,
+    let ended = Status {
         mode,
-        exec_after(exec),
-        pc_after(exec, old, pc),
-        Progress::BetweenWords,
-    )
+        exec: exec_after(exec),
+        progress: Progress::BetweenWords,
+    };
+    let after = pc_after(exec, old, pc);
+    k.status = ended;
+    k.pc = after;
+    k
 }
 
 pub(super) fn ends(k: Core, c: u8, effect: Effect, send: u16, pc: Step) -> CoreAct
@@ -78,12 +79,20 @@ pub(super) fn goes_on(k: Core, c: u8) -> CoreAct
     ends(k, c, Effect::Keep, 0, advance(pc, 1))
 }
 
-pub(super) fn lasts(k: Core, c: u8, effect: Effect, progress: Progress) -> CoreAct
+pub(super) fn lasts(mut k: Core, c: u8, effect: Effect, progress: Progress) -> CoreAct
     ensures { λ r. ⌜ ((counts : List ℕ) → actOf r counts ≡ lasts c (engineOf k counts) effect progress) ⌝ }
 {
-    let own = with_progress(k, progress);
+    let status = k.status;
+    let mode = status.mode;
+    let exec = status.exec;
+    let lasting = Status {
+        mode,
+        exec,
+        progress,
+    };
+    k.status = lasting;
     CoreAct {
-        own,
+        own: k,
         c,
         effect,
         send: 0,

@@ -1,5 +1,5 @@
 -- `engine::stops::held` meets its contract.
-use mathlib.Core.Path.{ap, _∙_}
+use mathlib.Core.Path.{ap}
 use borrow.Author.Needs.{needs}
 use Rattle.machine.specs.declared.Exec.the-variants.{Hold}
 use Rattle.machine.specs.Parts.{withExec}
@@ -12,9 +12,4 @@ held-spec =
     tie.close
     (tie.spec
     (search needs)
-    (search needs)
-    (search needs)
-    (λ c counts.
-    let c2 = c .before .before .before in
-    c .with-state .ensures counts
-    ∙ ap (withExec Hold) (c2 .finish .ensures counts ∙ ap (finish _) (c2 .before .with-interrupt .ensures counts))))
+    (λ c counts. ap (withExec Hold) (c .before .finish .ensures counts)))

@@ -1,7 +1,5 @@
 -- `engine::table::loads` meets its contract.
-use mathlib.Core.Path.{ap, _∙_}
 use borrow.Author.Needs.{needs}
-use Rattle.machine.specs.WordEnd.{goesOn}
 use Rattle.machine.specs.TablePointers.{points}
 use Rattle.engine.proofs.table.loads.Statement.{statement}
 use Rattle.engine.proofs.table.loads.Tie as tie
@@ -12,5 +10,4 @@ loads-spec =
     tie.close
     (tie.spec
     (search needs)
-    (search needs)
-    (λ c memory counts. c .goes-on .ensures counts ∙ ap (goesOn _) (c .before .with-table .ensures counts)))
+    (λ c memory counts. c .goes-on .ensures counts))

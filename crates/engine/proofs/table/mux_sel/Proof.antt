@@ -1,11 +1,10 @@
 -- `engine::table::mux_sel` meets its contract.
 use Prim.Native.Nat.{ℕ, _-_, _*_, _%_, _^_, _≤_}
-use mathlib.Core.Path.{_≡_, ap, _∙_}
+use mathlib.Core.Path.{_≡_}
 use native.Mathlib.Omega.{arith}
 use native.Mathlib.Nat.{mod-eq-of-lt, one-mul}
 use borrow.Author.Needs.{needs}
 use lib.Pow.{pow-lt}
-use Rattle.machine.specs.WordEnd.{goesOn}
 use Rattle.engine.proofs.table.mux_sel.Statement.{statement}
 use Rattle.engine.proofs.table.mux_sel.Tie as tie
 
@@ -20,7 +19,4 @@ mux-sel-spec =
     (search needs)
     (search needs)
     (search needs)
-    (search needs)
-    (λ c counts.
-    let c2 = c .before in let c3 = c2 .before in
-    c .goes-on .ensures counts ∙ ap (goesOn _) (rw (shifted _ (c3 .pre .0) (c3 .pre .1)) at (c2 .with-mask .ensures counts))))
+    (λ c counts. rw (shifted _ (c .before .pre .0) (c .before .pre .1)) at (c .goes-on .ensures counts)))

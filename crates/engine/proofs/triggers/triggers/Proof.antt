@@ -12,10 +12,6 @@ triggers-spec =
     (tie.spec
     (search needs)
     (search needs)
-    (search needs)
-    (λ c counts.
-    let c2 = c .before .before in
-    rw (eq-eqb _ _ (c2 .before .before .before .if1 .taken))
-    (rw (c .before .advance .ensures, c2 .with-pending .ensures counts) at (c .ends .ensures counts)))
+    (λ c counts. rw (eq-eqb _ _ (c .before .before .before .before .if1 .taken)) (rw (c .before .advance .ensures) at (c .ends .ensures counts)))
     (search needs)
     (λ c counts. rw (ne-eqb _ _ (c .before .if1 .left)) (c .lasts .ensures counts)))

@@ -8,8 +8,7 @@ use Rattle.engine.proofs.turns.fetch.Tie as tie
 
 returns : tie.Need-returns
 returns c =
-    let c2 = c .before .before in
-    c .starts .ensures ∙ ap (starts LP5523 _ _ _) (c2 .with-pc .ensures _ ∙ c2 .before .fetch-pc .ensures _)
+    c .starts .ensures ∙ ap (starts LP5523 _ _ _) (c .before .before .fetch-pc .ensures _)
 
 pub fetch-spec : {M : Type 1} → statement M
-fetch-spec = tie.close (tie.spec (search needs) (search needs) (search needs) returns)
+fetch-spec = tie.close (tie.spec (search needs) (search needs) returns)

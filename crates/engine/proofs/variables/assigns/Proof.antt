@@ -1,8 +1,6 @@
 -- `engine::variables::assigns` meets its contract.
-use mathlib.Core.Path.{ap, _∙_}
 use borrow.Author.Tests.{ne-eqb}
 use borrow.Author.Needs.{needs}
-use Rattle.machine.specs.WordEnd.{goesOn}
 use Rattle.machine.specs.Variables.{assigns}
 use Rattle.engine.proofs.variables.assigns.Statement.{statement}
 use Rattle.engine.proofs.variables.assigns.Tie as tie
@@ -13,11 +11,9 @@ assigns-spec =
     tie.close
     (tie.spec
     (search needs)
+    (λ c counts. rw (c .before .if1 .taken) (c .goes-on .ensures counts))
     (search needs)
-    (λ c counts. rw (c .before .before .if1 .taken) (c .goes-on .ensures counts ∙ ap (goesOn _) (c .before .with-variables .ensures counts)))
-    (search needs)
-    (search needs)
-    (λ c counts. rw (c .before .before .if2 .taken) (c .goes-on2 .ensures counts ∙ ap (goesOn _) (c .before .with-variables2 .ensures counts)))
+    (λ c counts. rw (c .before .if2 .taken) (c .goes-on2 .ensures counts))
     (search needs)
     (λ c counts. rw (c .before .if3 .taken) (c .goes-on3 .ensures counts))
     (search needs)

@@ -6,7 +6,7 @@ use Rattle.engine.proofs.word_end.finish.Tie as tie
 
 returns : tie.Need-returns
 unfolding finish
-returns c counts = rw (c .before .before .exec-after .ensures, c .before .pc-after .ensures) at (c .with-state .ensures counts)
+returns c counts = rw (c .before .exec-after .ensures, c .pc-after .ensures)
 
 pub finish-spec : {M : Type 1} → statement M
-finish-spec = tie.close (tie.spec (search needs) (search needs) (search needs) returns)
+finish-spec = tie.close (tie.spec (search needs) (search needs) returns)
