@@ -9,14 +9,14 @@ pub enum Call {
     Interrupts,
 }
 
-fn pairs(numbers: impl IntoIterator<Item = impl ToString>) -> String {
+fn joined(numbers: impl IntoIterator<Item = impl ToString>) -> String {
     let numbers: Vec<String> = numbers.into_iter().map(|n| n.to_string()).collect();
     numbers.join(",")
 }
 
 fn ran(answer: Result<Ran, u8>) -> String {
     match answer {
-        Ok(ran) => format!("beats={} words={}", ran.beats, pairs(ran.words)),
+        Ok(ran) => format!("beats={} words={}", ran.beats, joined(ran.words)),
         Err(number) => format!("refused {number}"),
     }
 }
@@ -40,14 +40,14 @@ impl Call {
         match self {
             Call::Tick(pulse) => {
                 let beat = chip.tick(*pulse);
-                format!("pin={} words={}", u8::from(beat.pin), pairs(beat.ended.map(u8::from)))
+                format!("pin={} words={}", u8::from(beat.pin), joined(beat.ended.map(u8::from)))
             }
             Call::Run(beats) => ran(chip.run(*beats)),
             Call::Burst(first, bytes) => match chip.burst((*first).into(), bytes) {
                 0 => "ok".to_string(),
                 number => format!("refused {number}"),
             },
-            Call::Interrupts => format!("interrupts={}", pairs(chip.read_interrupts().map(u8::from))),
+            Call::Interrupts => format!("interrupts={}", joined(chip.read_interrupts().map(u8::from))),
         }
     }
 }

@@ -19,25 +19,28 @@ use std::hint::black_box;
 use std::io::Result;
 use std::time::Instant;
 
-/// The beats that are run after a script, so that a word in progress is seen to go on as it should.
-const AFTER: u32 = 3_000;
+/// The beats that are run after a script, so that a word in progress is seen to go on as it should: now
+/// and then more than the longest word takes, 255 parts of 992 beats.
+fn beats_after(script: u32) -> u32 {
+    if script % 16 == 0 { 260_000 } else { 3_000 }
+}
 
 fn lines_of(script: &[Call]) -> String {
     script.iter().map(|call| call.line() + "\n").collect()
 }
 
 /// The bench's lines for a script on a new chip.
-fn asked(script: &[Call]) -> String {
-    format!("bench\n{}state\nmemory\nrun {AFTER}\nstate\nquit\n", lines_of(script))
+fn asked(script: &[Call], after: u32) -> String {
+    format!("bench\n{}state\nmemory\nrun {after}\nstate\nquit\n", lines_of(script))
 }
 
 /// The answers that the plain chip gives.
-fn expected(script: &[Call]) -> Vec<String> {
+fn expected(script: &[Call], after: u32) -> Vec<String> {
     let mut chip = Chip::new();
     let mut lines: Vec<String> = script.iter().map(|call| call.make(&mut chip)).collect();
     lines.extend(state::state(&chip));
     lines.extend(state::memory(&chip));
-    lines.push(Call::Run(AFTER).make(&mut chip));
+    lines.push(Call::Run(after).make(&mut chip));
     lines.extend(state::state(&chip));
     lines
 }
@@ -52,11 +55,11 @@ fn report(script: &[Call], proved: &[String], plain: &[String]) {
 /// The number of scripts on which the two sides differ.
 fn compare(peer: &mut Peer, scripts: u32) -> Result<u32> {
     let (mut random, mut coverage, mut differing) = (Random::new(0x5523), Coverage::new(), 0);
-    for _ in 0..scripts {
-        let script = generate::script(&mut random);
+    for number in 0..scripts {
+        let (script, after) = (generate::script(&mut random), beats_after(number));
         coverage.play(&script);
-        let theirs = expected(&script);
-        peer.tell(&asked(&script))?;
+        let theirs = expected(&script, after);
+        peer.tell(&asked(&script, after))?;
         let ours = peer.answers(theirs.len())?;
         if ours != theirs {
             differing += 1;
