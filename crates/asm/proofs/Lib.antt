@@ -14,3 +14,4 @@ pub mod Ranges
 pub mod Reached
 pub mod Outcome
 pub mod Exactly
+pub mod WordLines

@@ -1,17 +1,20 @@
--- What is promised of sheets. The proofs are in proofs/Theorems.antt.
-use Prim.Native.Nat.{ℕ, _≤_}
-use mathlib.Core.List.{List}
+-- What is promised of sheets. The proofs are in proofs/Theorems.antt, of WordsInLines in proofs/WordLines.antt.
+use Prim.Native.Nat.{ℕ, _+_, _≤_}
+use mathlib.Core.List.{List, []}
+use mathlib.Core.Logic.{_↔_}
 use mathlib.Core.Path.{_≡_}
 use lib.ListN.{length, getD}
-use Rattle.word.specs.Profile.{Profile, wordsOf}
+use Rattle.word.specs.Profile.{Profile, wordsOf, enginesOf}
 use Rattle.plan.specs.declared.Plan.{Plan}
 use Rattle.plan.specs.declared.Verdict.the-variants.{OutOfOrder, CodeMeetsTable, UndefinedWord}
 use Rattle.plan.specs.Ranges.{planAt, InCode}
 use Rattle.plan.specs.Conditions.{Condition}
 use Rattle.word.specs.Decode.{addressAt}
 use Rattle.asm.specs.declared.Disassembled.the-variants.{Length}
-use Rattle.asm.specs.Reading.{program, assembleOf}
+use Rattle.asm.specs.Places.{formAt, lineOf}
+use Rattle.asm.specs.Reading.{program, refused-at, readSheet, assembleOf}
 use Rattle.asm.specs.Writing.{sheetOf, disassembleOf}
+use Rattle.asm.specs.Conditions.{cut, linesOf, planSaid, wordLineNumber, numberAt, FirstBad}
 
 -- 1. A sheet that is read without refusal is written again as the same bytes, given room.
 abbrev pub SheetAgain : Type 0
@@ -36,3 +39,14 @@ pub record Sound (P : Profile) (p : Plan) (image : List ℕ) : Type 0 where
 
 abbrev pub ReadsSound : Type 0
 ReadsSound = (P : Profile) (text image : List ℕ) (p : Plan) (words : ℕ) → assembleOf P words text ≡ program p image → Sound P p image
+
+-- The word with address a stands in line lineOf P a, which has place enginesOf P + a, counted from 0: the reader judges that line by what
+-- stands at a, and refuses it by that line's number where it is the first bad one.
+pub record WordInLine (P : Profile) (text : List ℕ) (a : ℕ) : Type 0 where
+  pub judged :
+      numberAt P (linesOf text) (enginesOf P + a)
+      ≡ wordLineNumber P (formAt P (planSaid P (linesOf text)) a) (getD (linesOf text) (enginesOf P + a) (cut []))
+  pub refused : (n : ℕ) → (readSheet P text ≡ refused-at n (lineOf P a)) ↔ FirstBad P (linesOf text) (enginesOf P + a) n
+
+abbrev pub WordsInLines : Type 0
+WordsInLines = (P : Profile) (text : List ℕ) (a : ℕ) → WordInLine P text a

@@ -8,6 +8,7 @@ mod words;
 use asm::Assembled;
 pub use assembler::assemble;
 use plan::EnginePlan;
+pub use plans::engine_plan;
 
 // An engine's plan and the place after its line, or the sheet's refusal.
 enum PlanLine {

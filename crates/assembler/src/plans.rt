@@ -21,7 +21,8 @@ ghost use Rattle.assembler.specs.Walks.{linesFrom, thenPlans, Within};
 
 const LINE_FEED: u8 = 10;
 
-fn engine_plan(v: Values) -> EnginePlan
+// An engine's plan, from the values of its plan line.
+pub fn engine_plan(v: Values) -> EnginePlan
     ensures { λ r. ⌜ r ≡ enginePlanOf (listOf v) ⌝ }
 {
     if v.b != 0 {

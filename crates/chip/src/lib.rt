@@ -7,5 +7,6 @@ mod ticks;
 pub use chip_state::new_chip;
 pub use chip_state::read_interrupts;
 pub use registers::burst;
+pub use runs::MOST_BEATS;
 pub use runs::run;
 pub use ticks::tick;

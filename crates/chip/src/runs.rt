@@ -8,7 +8,7 @@ ghost use Rattle.word.specs.Profile.{LP5523};
 ghost use Rattle.machine.specs.Run.{runOf};
 
 // The most beats that a run may take.
-const MOST_BEATS: u32 = 1_000_000;
+pub const MOST_BEATS: u32 = 1_000_000;
 
 // At most so many beats, without pulses; it stops before a beat if all is quiet.
 pub fn run(chip: Chip, beats: u32) -> Ran

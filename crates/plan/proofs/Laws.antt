@@ -16,9 +16,14 @@ use Rattle.word.specs.declared.Flow.{Flow}
 use Rattle.word.specs.declared.Word.{Word}
 use Rattle.plan.specs.declared.EnginePlan.{EnginePlan}
 use Rattle.plan.specs.declared.EnginePlan.the-variants.{Unused, Code, CodeAndTable}
+use Rattle.plan.specs.declared.Stray.{Stray}
+use Rattle.plan.specs.declared.Stray.the-variants.{To}
 use Rattle.plan.specs.declared.Verdict.{Verdict}
 use Rattle.plan.specs.declared.Verdict.the-variants.{Accept, WrongLength, OutOfOrder, CodeMeetsTable, UndefinedWord, SuccessorOutside, TableMisused, TableNotOpened, ReservedRowBit}
-use Rattle.plan.specs.Tests.{ordered, inOrder, isFault, successorsInside, usesOwnTable, opensTable}
+use Rattle.plan.specs.Ranges.{firstOf}
+use Rattle.plan.specs.Conditions.{successorsOf}
+use Rattle.plan.specs.Tests.{ordered, inOrder, isFault, inCode, allIn, successorsInside, usesOwnTable, opensTable}
+use Rattle.plan.specs.Strays.{firstOutside, isInside, strayOf}
 use Rattle.plan.specs.Passes.{isAccept, orElse, scan, wordVerdict, wordsVerdict, rowsVerdict, codeVerdict, tableVerdict}
 use Rattle.plan.proofs.Verdict.{the-type}
 
@@ -156,6 +161,19 @@ module _ (q : EnginePlan) (i a : ℕ) (w : Word) {f : Flow} (is-flow : f ≡ flo
   pub word-fits : isFault f ≡ false → successorsInside q a f ≡ true → usesOwnTable q (tableUseOf w) ≡ true → Accept ≡ wordVerdict q i a w
   unfolding wordVerdict
   word-fits e s u = simp (faultless e, inside s, u)
+
+-- the first number outside is none exactly where all are inside
+inside-or-first : (b : Bool) (s : Stray) {c : Bool} (x : ℕ) → isInside s ≡ c → isInside (cond b s (To x)) ≡ (b && c)
+inside-or-first true s x e = e
+inside-or-first false s x e = refl
+
+inside-exactly : (f : ℕ → Bool) (xs : List ℕ) → isInside (firstOutside f xs) ≡ allIn f xs
+inside-exactly f [] = refl
+inside-exactly f (x ∷ xs) = inside-or-first (f x) (firstOutside f xs) x (inside-exactly f xs)
+
+pub stray-inside : (q : EnginePlan) (a : ℕ) (f : Flow) → isInside (strayOf q a f) ≡ successorsInside q a f
+unfolding strayOf successorsInside
+stray-inside q a f = inside-exactly (inCode q) (successorsOf (firstOf q) a f)
 
 -- a scan from a to l: one step of the loop, and its end
 module _ (f : ℕ → Verdict) (a l : ℕ) where

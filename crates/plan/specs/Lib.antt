@@ -2,6 +2,7 @@ pub mod Verdict
 pub mod Ranges
 pub mod Conditions
 pub mod Tests
+pub mod Strays
 pub mod Check
 pub mod Passes
 pub mod Theorems

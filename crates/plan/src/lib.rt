@@ -45,6 +45,13 @@ pub enum Verdict {
     ReservedRowBit { engine: u16, address: Address },
 }
 
+// Where a word's successors lie: all in the engine's own code, or the first that doesn't at this
+// address, a u32 so that no addition to an address overflows.
+pub enum Stray {
+    Inside,
+    To(u32),
+}
+
 // A verdict as document 01 reports it: its number, the engine and the address, zero for what it doesn't
 // give.
 pub struct Report {

@@ -1,37 +1,12 @@
-// What the rules ask of a word: where it lets the engine go on, and what it does to the pointers of
-// the mapping table. The definitions are crate word's, in specs/Classes.antt.
+// What a word does to the pointers of the mapping table. The definitions are crate word's, in
+// specs/Classes.antt.
 use word::Address;
-use word::Flow;
 use word::MuxAtOp;
 use word::MuxMoveOp;
 use word::TableUse;
 use word::Word;
 ghost use mathlib.Core.Path.{_≡_};
-ghost use Rattle.word.specs.Classes.{flowOf, useAt, useMove, tableUseOf};
-
-pub(super) fn flow_of(word: Word) -> Flow
-    ensures { λ r. ⌜ r ≡ flowOf word ⌝ }
-{
-    match word {
-        Word::Rst => Flow::Restart,
-        Word::BranchVar { loops, step } => Flow::LoopVar { loops, step },
-        Word::Jump {
-            op,
-            skip,
-            left,
-            right,
-        } => Flow::Skip {
-            op,
-            skip,
-            left,
-            right,
-        },
-        Word::Branch { loops, step } => Flow::Loop { loops, step },
-        Word::End { int: _, reset } => Flow::Stop { reset },
-        Word::Undefined => Flow::Fault,
-        _ => Flow::Next,
-    }
-}
+ghost use Rattle.word.specs.Classes.{useAt, useMove, tableUseOf};
 
 fn use_at(op: MuxAtOp, address: Address) -> TableUse
     ensures { λ r. ⌜ r ≡ useAt op address ⌝ }

@@ -1,5 +1,4 @@
 // 13, 14 and 15, word by word upward.
-use super::classes::flow_of;
 use super::classes::table_use_of;
 use super::table_use::uses_own_table;
 use plan::EnginePlan;
@@ -27,7 +26,7 @@ fn check_word(q: EnginePlan, engine: u16, at: u16, code: u16) -> Verdict
     ensures { λ r. ⌜ r ≡ wordVerdict q engine at (decodeOf LP5523 code) ⌝ }
 {
     let decoded = decoder::decode(code);
-    let flow = flow_of(decoded);
+    let flow = plan_successors::flow_of(decoded);
     let address = Address(at);
     if is_fault(flow) {
         return Verdict::UndefinedWord { engine, address };

@@ -1,13 +1,13 @@
-// What stands at an address by a plan: code, a table row, or neither.
+// What stands at an address by a plan: code, a table row, or neither; whose it is, and in which line.
 use grammar::Form;
 use plan::EnginePlan;
 use plan::Plan;
 use word::Address;
-ghost use mathlib.Core.Bool.{false, _||_};
+ghost use mathlib.Core.Bool.{false, cond, _||_};
 ghost use mathlib.Core.Path.{_≡_};
 ghost use Rattle.word.specs.Profile.{LP5523};
 ghost use Rattle.plan.specs.Tests.{inRange, inCode};
-ghost use Rattle.asm.specs.Places.{inTable, formAt};
+ghost use Rattle.asm.specs.Places.{inTable, formAt, ownerAt, lineOf};
 
 fn in_range(first: Address, last: Address, a: u16) -> bool
     ensures { λ r. ⌜ r ≡ inRange first last a ⌝ }
@@ -74,4 +74,38 @@ pub fn form_at(plan: Plan, a: u16) -> Form
         return Form::Row;
     }
     Form::Spare
+}
+
+// The lowest engine that has it, if any has.
+fn lowest(a: bool, b: bool, c: bool, otherwise: u16) -> u16
+    ensures { λ r. ⌜ r ≡ cond a 1 (cond b 2 (cond c 3 otherwise)) ⌝ }
+{
+    if a {
+        return 1;
+    }
+    if b {
+        return 2;
+    }
+    if c {
+        return 3;
+    }
+    otherwise
+}
+
+// The lowest engine whose code has the address, else the lowest whose table has it, else 0.
+pub fn owner_at(plan: Plan, a: u16) -> u16
+    ensures { λ r. ⌜ r ≡ ownerAt LP5523 plan a ⌝ }
+{
+    let q1 = plan.engine1;
+    let q2 = plan.engine2;
+    let q3 = plan.engine3;
+    let row = lowest(in_table(q1, a), in_table(q2, a), in_table(q3, a), 0);
+    lowest(in_code(q1, a), in_code(q2, a), in_code(q3, a), row)
+}
+
+// The words stand after three plan lines, and lines are counted from 1.
+pub fn line_of(a: u16) -> u32
+    ensures { λ r. ⌜ r ≡ lineOf LP5523 a ⌝ }
+{
+    a as u32 + 4
 }

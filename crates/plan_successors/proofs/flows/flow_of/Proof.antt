@@ -1,4 +1,4 @@
--- `plan_check::classes::flow_of` meets its contract: each arm knows its case, and the last one that the word is none of the cases before it.
+-- `plan_successors::flows::flow_of` meets its contract: each arm knows its case, and the last one that the word is none of the cases before it.
 use Prim.Native.Nat.{ℕ}
 use mathlib.Core.Path.{_≡_, refl, sym, ap}
 use mathlib.Core.List.{List, [], _∷_}
@@ -10,8 +10,8 @@ use Rattle.word.specs.declared.Word.{Word}
 use Rattle.word.specs.declared.Word.the-variants.{Rst, Ramp, Wait, Set, RampVar, SetVar, BranchVar, Jump, Arith, ArithVar, MuxAt, MuxClr, MuxSel, MuxMove, Branch, End, Int, Trigger, Undefined}
 use Rattle.word.specs.declared.Flow.the-variants.{Next}
 use Rattle.word.specs.Classes.{flowOf}
-use Rattle.plan_check.proofs.classes.flow_of.Statement.{statement}
-use Rattle.plan_check.proofs.classes.flow_of.Tie as tie
+use Rattle.plan_successors.proofs.flows.flow_of.Statement.{statement}
+use Rattle.plan_successors.proofs.flows.flow_of.Tie as tie
 
 -- the variants that no arm names
 abbrev keys : List ℕ
