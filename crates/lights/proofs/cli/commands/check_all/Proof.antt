@@ -1,0 +1,33 @@
+-- `lights::cli::commands::check_all` is safe and ends.
+use mathlib.Core.Path.{_≡_}
+use borrow.Author.Needs.{needs}
+use lib.ListN.{length}
+use Rattle.lights.proofs.cli.commands.check_all.Statement.{statement}
+use Rattle.lights.proofs.cli.commands.check_all.Tie as tie
+
+abbrev Inv-loop : tie.InvT-loop
+Inv-loop line count bytes₀ status₀ arguments₀ read₀ left₀ bytes status arguments read left = 4096 ≡ length bytes
+
+abbrev μ-loop : tie.MeasureT-loop
+μ-loop line count bytes₀ status₀ arguments₀ read₀ left₀ bytes status arguments read left = left
+
+pub check-all-spec : {M : Type 1} → statement M
+check-all-spec =
+    tie.close
+    (tie.spec
+    Inv-loop
+    μ-loop
+    (λ c. search needs)
+    (λ c. search needs)
+    (λ c κs. search needs)
+    (λ c. search needs)
+    (λ c κs. search needs)
+    (λ c κs. search needs)
+    (λ c κs. search needs)
+    (λ c κs. search needs)
+    (λ c. search needs)
+    (λ c κs. search needs)
+    (λ c. search needs)
+    (λ c. search needs)
+    (λ c. search needs)
+    (λ c. search needs))

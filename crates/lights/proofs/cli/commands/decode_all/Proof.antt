@@ -1,0 +1,31 @@
+-- `lights::cli::commands::decode_all` is safe and ends.
+use mathlib.Core.Path.{_≡_}
+use borrow.Author.Needs.{needs}
+use lib.ListN.{length}
+use Rattle.lights.proofs.cli.commands.decode_all.Statement.{statement}
+use Rattle.lights.proofs.cli.commands.decode_all.Tie as tie
+
+abbrev Inv-loop : tie.InvT-loop
+Inv-loop line count bytes₀ status₀ arguments₀ left₀ bytes status arguments left = 8 ≡ length bytes
+
+abbrev μ-loop : tie.MeasureT-loop
+μ-loop line count bytes₀ status₀ arguments₀ left₀ bytes status arguments left = left
+
+pub decode-all-spec : {M : Type 1} → statement M
+decode-all-spec =
+    tie.close
+    (tie.spec
+    Inv-loop
+    μ-loop
+    (λ c. search needs)
+    (λ c. search needs)
+    (λ c κs. search needs)
+    (λ c. search needs)
+    (λ c κs. search needs)
+    (λ c κs. search needs)
+    (λ c κs. search needs)
+    (λ c. search needs)
+    (λ c. search needs)
+    (λ c. search needs)
+    (λ c. search needs)
+    (λ c. search needs))

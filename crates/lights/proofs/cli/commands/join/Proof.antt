@@ -1,0 +1,26 @@
+-- `lights::cli::commands::join` is safe and ends.
+use mathlib.Core.Path.{_≡_}
+use borrow.Author.Needs.{needs}
+use lib.ListN.{length}
+use Rattle.lights.proofs.cli.commands.join.Statement.{statement}
+use Rattle.lights.proofs.cli.commands.join.Tie as tie
+
+abbrev Inv-loop : tie.InvT-loop
+Inv-loop out₀ count arguments₀ at₀ left₀ out arguments at left = length out ≡ length out₀
+
+abbrev μ-loop : tie.MeasureT-loop
+μ-loop out₀ count arguments₀ at₀ left₀ out arguments at left = left
+
+pub join-spec : {M : Type 1} → statement M
+join-spec =
+    tie.close
+    (tie.spec
+    Inv-loop
+    μ-loop
+    (λ c. search needs)
+    (λ c κs. search needs)
+    (λ c. search needs)
+    (λ c. search needs)
+    (λ c. search needs)
+    (λ c. search needs)
+    (λ c. search needs))

@@ -1,0 +1,15 @@
+-- `lights::pictures::scale::until` is safe and ends.
+use mathlib.Core.Path.{sym}
+use native.Mathlib.Omega.{arith}
+use borrow.Author.Needs.{needs}
+use lib.Seq.{length-take-le}
+use Rattle.lights.proofs.pictures.scale.until.Statement.{statement}
+use Rattle.lights.proofs.pictures.scale.until.Tie as tie
+
+pub until-spec : {M : Type 1} → statement M
+until-spec =
+    tie.close
+    (tie.spec
+    (λ c. sym (length-take-le _ _ (omega arith)))
+    (λ c. search needs)
+    (λ c. search needs))

@@ -1,0 +1,25 @@
+-- `lights::sheets::lines::line_start` is safe and ends.
+use Prim.Native.Nat.{_-_, _≤_}
+use borrow.Author.Needs.{needs}
+use lib.ListN.{length}
+use Rattle.lights.proofs.sheets.lines.line_start.Statement.{statement}
+use Rattle.lights.proofs.sheets.lines.line_start.Tie as tie
+
+abbrev Inv-loop : tie.InvT-loop
+Inv-loop text n at₀ i₀ at i = at ≤ length text
+
+abbrev μ-loop : tie.MeasureT-loop
+μ-loop text n at₀ i₀ at i = n - i
+
+pub line-start-spec : {M : Type 1} → statement M
+line-start-spec =
+    tie.close
+    (tie.spec
+    Inv-loop
+    μ-loop
+    (λ c. search needs)
+    (λ c κs. search needs)
+    (λ c. search needs)
+    (λ c. search needs)
+    (λ c. search needs)
+    (λ c. search needs))

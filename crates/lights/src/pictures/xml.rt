@@ -1,0 +1,23 @@
+// Any bytes as a text of XML.
+use super::patterns::put_pattern;
+use text_writing::put_byte;
+
+fn put_escaped(out: &mut [u8], at: usize, b: u8) -> usize {
+    match b {
+        // bytes with a meaning in XML, by their number
+        b'&' | b'<' | b'>' | b'"' => put_pattern(out, at, b"&#X;", b as u32, 0),
+        // control bytes
+        0..=31 | 127 => put_byte(out, at, b'?'),
+        _ => put_byte(out, at, b),
+    }
+}
+
+pub fn put_text(out: &mut [u8], at: usize, text: &[u8]) -> usize {
+    let mut next = at;
+    let mut i = 0;
+    while i < text.len() {
+        next = put_escaped(out, next, text[i]);
+        i += 1;
+    }
+    next
+}
