@@ -39,7 +39,7 @@ enum Judged {
 enum Found {
     // the first pair that is judged so, and where its part of the line begins
     Pair(Pair, usize),
-    // none; where the part after the last one begins
+    // none; where the part after the last one begins, past the line's end where there is none
     End(usize),
 }
 
@@ -117,19 +117,32 @@ fn is_last(part: &[u8], pair: Pair) -> bool {
     !is_name(value_of(part), words_of(pair.kind).from)
 }
 
+// Where the part after a pair begins. After a yes or no that is neither nothing more is judged: it is
+// past the end.
+fn next_place(line: &[u8], at: usize, pair: Pair, judged: u8) -> usize {
+    if pair.kind == DECISION as usize {
+        if judged == rank(Judged::Outside) {
+            return line.len() + 1;
+        }
+    }
+    after(line, at, SPACE)
+}
+
 // The first pair of a form that is judged so, in the parts of the line that begin at `from`.
 fn find(line: &[u8], from: usize, form: usize, sought: Judged) -> Found {
     let pairs = pairs_of(form);
     let end = pairs.to;
+    let wanted = rank(sought);
     let mut i = pairs.from;
     let mut at = from;
     while i < end {
         let pair = pair_at(i);
         let part = part_at(line, at, SPACE);
-        if rank(judge(part, pair)) == rank(sought) {
+        let judged = rank(judge(part, pair));
+        if judged == wanted {
             return Found::Pair(pair, at);
         }
-        at = after(line, at, SPACE);
+        at = next_place(line, at, pair, judged);
         if is_last(part, pair) {
             return Found::End(at);
         }

@@ -5,10 +5,10 @@ use Rattle.lights.proofs.sentences.lines.faults.find.Statement.{stateme
 use Rattle.lights.proofs.sentences.lines.faults.find.Tie as tie
 
 abbrev Inv-loop : tie.InvT-loop
-Inv-loop line from form sought end i₀ at₀ i at = Unit {0}
+Inv-loop line from form end wanted i₀ at₀ i at = Unit {0}
 
 abbrev μ-loop : tie.MeasureT-loop
-μ-loop line from form sought end i₀ at₀ i at = end - i
+μ-loop line from form end wanted i₀ at₀ i at = end - i
 
 pub find-spec : {M : Type 1} → statement M
 find-spec =
@@ -17,9 +17,9 @@ find-spec =
     Inv-loop
     μ-loop
     (λ c κs. tt)
+    (λ c κs. tt)
     (λ c. tt)
     (λ c κs. omega arith)
-    (λ c κs. tt)
     (λ c κs. tt)
     (λ c κs. tt)
     (λ c κs. tt)
