@@ -9,4 +9,3 @@ pub mod numbers;
 pub mod output;
 pub mod serving;
 pub mod status;
-pub mod texts;

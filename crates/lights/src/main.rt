@@ -5,9 +5,10 @@ mod cli;
 mod pictures;
 mod sentences;
 mod sheets;
+mod texts;
 
 // The status goes to descriptor 3, where the script takes it up.
 fn main() {
-    let digit = [cli::status::digit(cli::commands::run())];
+    let digit = [cli::status::digit(cli::serving::run())];
     io::write_all(3, &digit);
 }

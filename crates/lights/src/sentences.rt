@@ -1,5 +1,12 @@
-// Refusals: the number and its place, then a sentence that says what to correct.
+// What is told: the sentences of answers, and the table of the ops.
 pub mod calls;
 pub mod checker;
-pub mod lines;
+pub mod filling;
+mod lines;
+pub mod ops;
 pub mod reader;
+pub mod say;
+pub mod shown;
+mod tables;
+pub mod templates;
+mod values;

@@ -1,7 +1,6 @@
 // Sheets, images and words: read, checked and written.
 pub mod checking;
 pub mod images;
-pub mod lines;
 pub mod loading;
 pub mod ops;
 pub mod plans;

@@ -7,6 +7,9 @@ pub struct Step(pub u16);
 // An address counts from word 0 of the program memory.
 pub struct Address(pub u16);
 
+// The words of the program memory.
+pub const WORDS: usize = 96;
+
 pub enum Direction {
     Up,
     Down,

@@ -1,9 +1,11 @@
 // A burst, read from a line of the bench: its first register, then its bytes.
-use crate::cli::arguments::part_end;
 use crate::cli::numbers::Byte;
 use crate::cli::numbers::Number;
 use crate::cli::numbers::read_byte;
 use crate::cli::numbers::read_number;
+use crate::texts::pieces::SPACE;
+use crate::texts::pieces::after;
+use text_parts::part_at;
 use text_writing::put_byte;
 
 pub enum Burst {
@@ -22,25 +24,20 @@ fn read_bytes(line: &[u8], from: usize, first: u16, bytes: &mut [u8]) -> Burst {
     let mut count: usize = 0;
     let mut at = from;
     while at <= line.len() {
-        let end = part_end(line, at);
-        match read_byte(&line[at..end]) {
+        match read_byte(part_at(line, at, SPACE)) {
             Byte::Value(b) => count = put_byte(bytes, count, b),
             Byte::TooLarge => return Burst::ByteTooLarge,
             Byte::Malformed => return Burst::Malformed,
         }
-        at = end + 1;
+        at = after(line, at, SPACE);
     }
     Burst::From(first, count)
 }
 
 // The line from the register's place on.
 pub fn read(line: &[u8], at: usize, bytes: &mut [u8]) -> Burst {
-    if at > line.len() {
-        return Burst::Malformed;
-    }
-    let end = part_end(line, at);
-    match read_number(&line[at..end]) {
-        Number::Value(first) => read_bytes(line, end + 1, first, bytes),
+    match read_number(part_at(line, at, SPACE)) {
+        Number::Value(first) => read_bytes(line, after(line, at, SPACE), first, bytes),
         Number::TooLarge => Burst::RegisterTooLarge,
         Number::Malformed => Burst::Malformed,
     }

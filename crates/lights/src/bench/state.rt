@@ -1,18 +1,54 @@
 // The chip's state, as lines of pairs.
-use crate::cli::texts::fill;
-use crate::cli::texts::flag;
-use crate::cli::texts::one;
-use crate::cli::texts::two;
-use crate::cli::texts::wide;
-use crate::cli::texts::wider;
+use crate::sentences::filling::put_numbers;
+use crate::sentences::say::wide;
+use crate::texts::pieces::nth;
 use machine::Chip;
 use machine::Engine;
 use machine::Exec;
 use machine::Mode;
 use machine::Output;
 use machine::Progress;
-use text_writing::put_byte;
-use text_writing::put_bytes;
+use word::WORDS;
+
+// The places of the templates in `put`, the most frequent first.
+const NEXT_OUTPUT: usize = 0;
+
+const COUNT: usize = 1;
+
+const NEXT_COUNT: usize = 2;
+
+const NO_COUNT: usize = 3;
+
+const END: usize = 4;
+
+const OUTPUT: usize = 5;
+
+const CHIP: usize = 6;
+
+const ENGINE: usize = 7;
+
+const POSITION: usize = 8;
+
+// A template with these numbers.
+fn put(out: &mut [u8], at: usize, template: usize, numbers: [u32; 8]) -> usize {
+    let templates = b",%\0\
+%:%\0\
+,%:%\0\
+none\0\
+\n\0\
+outputs=%\0\
+chip enable=% c=% d=% page=%\n\0\
+engine=% mode=% run=% start=% pc=% a=% b=% mask=% \0\
+top=% bottom=% index=% pending=% interrupt=% fault=% midword=% counts=";
+    put_numbers(out, at, nth(templates, template, 0), numbers)
+}
+
+pub(super) fn flag(b: bool) -> u32 {
+    if b {
+        return 1;
+    }
+    0
+}
 
 fn mode_of(mode: Mode) -> u32 {
     match mode {
@@ -39,112 +75,108 @@ fn mid_word(progress: Progress) -> u32 {
     1
 }
 
-fn put_position(out: &mut [u8], at: usize, number: u32, e: Engine) -> usize {
+fn settings(number: u32, e: Engine) -> [u32; 8] {
     let mode = e.mode;
     let exec = e.exec;
-    let numbers = [
+    [
         number,
         mode_of(mode),
         setting_of(exec),
-        wider(e.start.0),
-        wider(e.pc.0),
-        wide(e.a),
-        wide(e.b),
-        wider(e.mask),
-    ];
-    fill(
-        out,
-        at,
-        b"engine=% mode=% run=% start=% pc=% a=% b=% mask=%",
-        numbers,
-    )
+        wide(e.start.0),
+        wide(e.pc.0),
+        e.a as u32,
+        e.b as u32,
+        wide(e.mask),
+    ]
 }
 
-fn put_flags(out: &mut [u8], at: usize, e: Engine) -> usize {
+fn position(e: Engine) -> [u32; 8] {
     let progress = e.progress;
-    let numbers = [
-        wider(e.table.top.0),
-        wider(e.table.bottom.0),
-        wider(e.table.index.0),
-        wider(e.pending),
+    [
+        wide(e.table.top.0),
+        wide(e.table.bottom.0),
+        wide(e.table.index.0),
+        wide(e.pending),
         flag(e.interrupt),
         flag(e.fault),
         mid_word(progress),
         0,
-    ];
-    fill(
-        out,
-        at,
-        b" top=% bottom=% index=% pending=% interrupt=% fault=% midword=% counts=",
-        numbers,
-    )
+    ]
 }
 
-// A list of counts: the place after it, and whether it has one.
+// A list of counts: the place after it, and the template of the next one.
 struct Listed {
     at: usize,
-    some: bool,
+    next: usize,
 }
 
 // A count that isn't 0, after those before it.
 fn put_count(out: &mut [u8], listed: Listed, address: u32, count: u8) -> Listed {
-    let at = listed.at;
     if count == 0 {
         return listed;
     }
-    if listed.some {
-        return Listed {
-            at: fill(out, at, b",%:%", two(address, wide(count))),
-            some: true,
-        };
-    }
+    let numbers = [address, count as u32, 0, 0, 0, 0, 0, 0];
     Listed {
-        at: fill(out, at, b"%:%", two(address, wide(count))),
-        some: true,
+        at: put(out, listed.at, listed.next, numbers),
+        next: NEXT_COUNT,
     }
 }
 
-fn put_counts(out: &mut [u8], at: usize, counts: [u8; 96]) -> usize {
-    let mut listed = Listed { at, some: false };
-    let mut address: u32 = 0;
-    while address < 96 {
-        listed = put_count(out, listed, address, counts[address as usize]);
+fn put_counts(out: &mut [u8], at: usize, counts: [u8; WORDS]) -> usize {
+    let mut listed = Listed { at, next: COUNT };
+    let mut address: usize = 0;
+    while address < WORDS {
+        listed = put_count(out, listed, address as u32, counts[address]);
         address += 1;
     }
-    if listed.some {
-        return put_byte(out, listed.at, b'\n');
+    if listed.next == COUNT {
+        return put(out, listed.at, NO_COUNT, [0; 8]);
     }
-    put_bytes(out, listed.at, b"none\n")
+    listed.at
 }
 
 fn put_engine(out: &mut [u8], at: usize, number: u32, e: Engine) -> usize {
     let counts = e.loops;
-    let flags = put_position(out, at, number, e);
-    let loops = put_flags(out, flags, e);
-    put_counts(out, loops, counts)
+    let set = put(out, at, ENGINE, settings(number, e));
+    let placed = put(out, set, POSITION, position(e));
+    let counted = put_counts(out, placed, counts);
+    put(out, counted, END, [0; 8])
+}
+
+fn put_engines(out: &mut [u8], at: usize, engines: [Engine; 3]) -> usize {
+    let mut next = at;
+    let mut k: u32 = 0;
+    while k < 3 {
+        next = put_engine(out, next, k + 1, engines[k as usize]);
+        k += 1;
+    }
+    next
+}
+
+fn level(output: Output) -> u32 {
+    output.level as u32
 }
 
 // D1 to D9, then the GPO.
 fn put_outputs(out: &mut [u8], at: usize, outputs: [Output; 10]) -> usize {
-    let mut next = fill(out, at, b"outputs=%", one(wide(outputs[0].level)));
-    let mut k: usize = 1;
+    let mut next = at;
+    let mut template = OUTPUT;
+    let mut k: usize = 0;
     while k < 10 {
-        next = fill(out, next, b",%", one(wide(outputs[k].level)));
+        let numbers = [level(outputs[k]), 0, 0, 0, 0, 0, 0, 0];
+        next = put(out, next, template, numbers);
+        template = NEXT_OUTPUT;
         k += 1;
     }
-    put_byte(out, next, b'\n')
-}
-
-fn put_common(out: &mut [u8], at: usize, enabled: bool, c: u8, d: u8, page: u8) -> usize {
-    let numbers = [flag(enabled), wide(c), wide(d), wide(page), 0, 0, 0, 0];
-    fill(out, at, b"chip enable=% c=% d=% page=%\n", numbers)
+    put(out, next, END, [0; 8])
 }
 
 pub fn put_chip(out: &mut [u8], at: usize, m: Chip) -> usize {
+    let engines = m.engines;
     let outputs = m.outputs;
-    let one = put_common(out, at, m.enabled, m.c, m.d, m.page);
-    let two = put_engine(out, one, 1, m.engines[0]);
-    let three = put_engine(out, two, 2, m.engines[1]);
-    let end = put_engine(out, three, 3, m.engines[2]);
-    put_outputs(out, end, outputs)
+    let enabled = flag(m.enabled);
+    let common = [enabled, m.c as u32, m.d as u32, m.page as u32, 0, 0, 0, 0];
+    let chip = put(out, at, CHIP, common);
+    let next = put_engines(out, chip, engines);
+    put_outputs(out, next, outputs)
 }

@@ -6,6 +6,11 @@ use super::names::Kind;
 
 pub enum File {
     Bytes(usize),
+    Unused(Trouble),
+}
+
+// Why a file's bytes can't be used.
+pub enum Trouble {
     Unreadable,
     // it fills the lent bytes
     TooLarge,
@@ -41,31 +46,29 @@ fn read_all(fd: i32, buf: &mut [u8]) -> File {
     while done < buf.len() {
         let got = read_some(fd, &mut buf[done..]);
         if got.failed {
-            return File::Unreadable;
+            return File::Unused(Trouble::Unreadable);
         }
         if got.count == 0 {
             return File::Bytes(done);
         }
         done += got.count;
     }
-    File::TooLarge
-}
-
-fn read_file(path: &[u8], buf: &mut [u8]) -> File {
-    let fd = os::open_read(path);
-    if fd < 0 {
-        return File::Unreadable;
-    }
-    let file = read_all(fd, buf);
-    libc::close(fd);
-    file
+    File::Unused(Trouble::TooLarge)
 }
 
 pub fn read(path: &[u8], kind: Kind, buf: &mut [u8]) -> File {
     match kind {
-        Kind::File => read_file(path, buf),
+        Kind::File => {
+            let fd = os::open_read(path);
+            if fd < 0 {
+                return File::Unused(Trouble::Unreadable);
+            }
+            let file = read_all(fd, buf);
+            libc::close(fd);
+            file
+        }
         Kind::Input => read_all(libc::STDIN_FILENO, buf),
-        Kind::Taken => File::Taken,
-        Kind::TooLong => File::Unreadable,
+        Kind::Taken => File::Unused(Trouble::Taken),
+        Kind::TooLong => File::Unused(Trouble::Unreadable),
     }
 }

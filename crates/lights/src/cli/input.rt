@@ -33,47 +33,21 @@ pub struct Input {
     pub found: Found,
 }
 
-pub fn none_yet() -> Input
-    ensures { λ r. ⌜ (r .at ≤ r .stop) × (r .stop ≤ r .end) × (r .end ≤ 0) ⌝ }
-{
-    Input {
-        at: 0,
-        stop: 0,
-        end: 0,
-        over: false,
-        skipping: false,
-        found: Found::Nothing,
-    }
-}
-
-// Where the line that begins at a place ends, or the end of what is read.
-fn line_end(buf: &[u8], at: usize, end: usize) -> usize
-    requires { ⌜ (at ≤ end) × (end ≤ length (now buf)) ⌝ }
-    ensures { λ r. ⌜ (at ≤ r) × (r ≤ end) ⌝ }
-{
-    let mut i = at;
-    while i < end {
-        if buf[i] == LINE_FEED {
-            return i;
-        }
-        i += 1;
-    }
-    i
-}
-
-fn line_or_too_long(skipping: bool) -> Found {
-    if skipping {
-        return Found::TooLong;
-    }
-    Found::Line
-}
+pub const NONE_YET: Input = Input {
+    at: 0,
+    stop: 0,
+    end: 0,
+    over: false,
+    skipping: false,
+    found: Found::Nothing,
+};
 
 // What the bytes from `at` to `end` begin with.
 fn look(buf: &[u8], at: usize, end: usize, over: bool, skipping: bool) -> Input
     requires { ⌜ (at ≤ end) × (end ≤ length (now buf)) ⌝ }
     ensures { λ r. ⌜ (r .at ≤ r .stop) × (r .stop ≤ r .end) × (r .end ≤ length (now (buf .entry))) ⌝ }
 {
-    let stop = line_end(buf, at, end);
+    let stop = bytes::scan::find(buf, at, end, LINE_FEED);
     if stop < end {
         return Input {
             at,
@@ -81,7 +55,7 @@ fn look(buf: &[u8], at: usize, end: usize, over: bool, skipping: bool) -> Input
             end,
             over,
             skipping: false,
-            found: line_or_too_long(skipping),
+            found: line_found(true, skipping),
         };
     }
     if !over {
@@ -100,12 +74,12 @@ fn look(buf: &[u8], at: usize, end: usize, over: bool, skipping: bool) -> Input
         end,
         over,
         skipping: false,
-        found: last(at < end, skipping),
+        found: line_found(at < end, skipping),
     }
 }
 
-// What the end of the input is: a line without its LF, or no line.
-fn last(some: bool, skipping: bool) -> Found {
+// A line, its end where it is too long, or the end of the input where there is none.
+fn line_found(some: bool, skipping: bool) -> Found {
     if skipping {
         return Found::TooLong;
     }
@@ -189,14 +163,6 @@ fn more(buf: &mut [u8], input: Input) -> Input
     look(buf, 0, end + got.count, got.count == 0, kept.skipping)
 }
 
-fn is_found(found: Found) -> bool {
-    if let Found::Nothing = found {
-        false
-    } else {
-        true
-    }
-}
-
 // The first byte after the line.
 fn after(input: Input) -> usize
     requires { ⌜ (input .at ≤ input .stop) × (input .stop ≤ input .end) ⌝ }
@@ -218,9 +184,9 @@ pub(crate) fn next(buf: &mut [u8], before: Input) -> Input
     let mut left: u64 = MOST;
     while left > 0 {
         let found = input.found;
-        if is_found(found) {
+        let Found::Nothing = found else {
             return input;
-        }
+        };
         input = more(buf, input);
         left -= 1;
     }

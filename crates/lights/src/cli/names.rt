@@ -1,10 +1,9 @@
 // The names of files, as arguments give them.
 use super::arguments;
 use super::arguments::Argument;
-use super::arguments::Arguments;
 use super::arguments::Source;
-use super::texts::put_printable;
-use super::texts::until;
+use crate::texts::pieces::until;
+use text_parts::same;
 use text_writing::put_bytes;
 
 // The most bytes that a name has.
@@ -23,19 +22,15 @@ pub enum Kind {
     TooLong,
 }
 
-// A name has so many of the lent bytes.
+// A name has so many of the lent bytes. In place of one that is too long its first bytes and `..` stand
+// there.
 pub struct Name {
     pub length: usize,
     pub kind: Kind,
 }
 
-pub struct Named {
-    pub name: Name,
-    pub rest: Arguments,
-}
-
 fn kind_of(path: &[u8], source: Source) -> Kind {
-    if !text_parts::same(path, b"-") {
+    if !same(path, b"-") {
         return Kind::File;
     }
     match source {
@@ -44,14 +39,15 @@ fn kind_of(path: &[u8], source: Source) -> Kind {
     }
 }
 
-fn name_of(argument: Argument, bytes: &[u8], source: Source) -> Name {
-    match argument {
+// Argument k as a name.
+pub fn take(source: Source, line: &[u8], k: usize, bytes: &mut [u8]) -> Name {
+    match arguments::take(source, line, k, bytes) {
         Argument::Bytes(length) => Name {
             length,
             kind: kind_of(until(bytes, length), source),
         },
         Argument::TooLong => Name {
-            length: SHOWN,
+            length: put_bytes(bytes, SHOWN, b".."),
             kind: Kind::TooLong,
         },
         Argument::Missing => Name {
@@ -59,25 +55,4 @@ fn name_of(argument: Argument, bytes: &[u8], source: Source) -> Name {
             kind: Kind::File,
         },
     }
-}
-
-// The next argument as a name.
-pub fn take(arguments: Arguments, line: &[u8], bytes: &mut [u8]) -> Named {
-    let source = arguments.source;
-    let taken = arguments::take(arguments, line, bytes);
-    let argument = taken.argument;
-    let rest = taken.rest;
-    Named {
-        name: name_of(argument, bytes, source),
-        rest,
-    }
-}
-
-// A name with `?` in place of control bytes; of a name that is too long the first bytes and `..`.
-pub fn put_name(out: &mut [u8], at: usize, path: &[u8], kind: Kind) -> usize {
-    let end = put_printable(out, at, path);
-    if let Kind::TooLong = kind {
-        return put_bytes(out, end, b"..");
-    }
-    end
 }

@@ -60,35 +60,22 @@ pub enum Hex {
 }
 
 fn is_digit(b: u8) -> bool {
-    if b >= b'0' && b <= b'9' {
-        return true;
+    match b {
+        b'0'..=b'9' | b'A'..=b'F' | b'a'..=b'f' => true,
+        _ => false,
     }
-    if b >= b'A' && b <= b'F' {
-        return true;
-    }
-    b >= b'a' && b <= b'f'
 }
 
 // The value of a digit; 0 for another byte.
 fn digit(b: u8) -> u16
     ensures { λ r. ⌜ r ≤ 15 ⌝ }
 {
-    if b >= b'0' {
-        if b <= b'9' {
-            return (b - b'0') as u16;
-        }
+    match b {
+        b'0'..=b'9' => (b - b'0') as u16,
+        b'A'..=b'F' => (b - b'A' + 10) as u16,
+        b'a'..=b'f' => (b - b'a' + 10) as u16,
+        _ => 0,
     }
-    if b >= b'A' {
-        if b <= b'F' {
-            return (b - b'A') as u16 + 10;
-        }
-    }
-    if b >= b'a' {
-        if b <= b'f' {
-            return (b - b'a') as u16 + 10;
-        }
-    }
-    0
 }
 
 // Capitals or small letters.

@@ -1,9 +1,10 @@
 // Answers: each is made in lent bytes and written by one call, so that the lines of several programs
 // that write to one file never mix.
 use super::status::Status;
-use super::status::worse;
-use super::texts::put_words;
-use super::texts::until;
+use crate::sentences::say::Message;
+use crate::sentences::templates::put_say;
+use crate::texts::pieces::until;
+use text_writing::put_byte;
 
 // No answer but a sheet or a picture is longer.
 pub const ANSWER: usize = 8192;
@@ -13,38 +14,49 @@ pub enum Channel {
     Error,
 }
 
-fn descriptor(to: Channel) -> i32 {
-    match to {
-        Channel::Output => libc::STDOUT_FILENO,
-        Channel::Error => libc::STDERR_FILENO,
-    }
-}
-
 // The program stops, and says why on standard error.
-pub fn lost(why: &[u8]) -> Status {
+fn lost(why: &[u8]) -> Status {
     io::write_all(libc::STDERR_FILENO, why);
     Status::Lost
 }
 
-// Writes the first n of the lent bytes.
-fn write(to: Channel, bytes: &[u8], n: usize) -> Status {
+// Writes the first n of the lent bytes. The command ends so, unless they are lost.
+pub fn write(to: Channel, bytes: &[u8], n: usize, status: Status) -> Status {
     if n > bytes.len() {
         return lost(b"lights: an answer is longer than the program can hold\n");
     }
-    if io::write_all(descriptor(to), until(bytes, n)) {
-        return Status::Done;
+    let fd = match to {
+        Channel::Output => libc::STDOUT_FILENO,
+        Channel::Error => libc::STDERR_FILENO,
+    };
+    if io::write_all(fd, until(bytes, n)) {
+        return status;
     }
     lost(b"lights: the answer can't be written\n")
 }
 
-// Writes an answer of n bytes; the command ends so, unless the answer is lost.
-pub fn tell(to: Channel, bytes: &[u8], n: usize, status: Status) -> Status {
-    worse(write(to, bytes, n), status)
+// Writes what a command makes.
+pub fn made(bytes: &[u8], n: usize) -> Status {
+    write(Channel::Output, bytes, n, Status::Done)
 }
 
-// The words of an image, sixteen a line.
-pub fn words(words: &[u16]) -> Status {
+// Writes a line about a file or a command with this name.
+pub fn tell_of(name: &[u8], message: Message) -> Status {
     let mut out = [0u8; ANSWER];
-    let n = put_words(&mut out, 0, words);
-    tell(Channel::Output, &out, n, Status::Done)
+    let to = message.to;
+    let status = message.status;
+    let head = message.head;
+    let body = message.body;
+    let quote = message.quote;
+    let bytes = quote.bytes;
+    let shown = until(&bytes, quote.length);
+    let sentence = put_say(&mut out, 0, head, shown, name);
+    let end = put_say(&mut out, sentence, body, shown, name);
+    let n = put_byte(&mut out, end, b'\n');
+    write(to, &out, n, status)
+}
+
+// Writes a line about nothing that has a name.
+pub fn tell(message: Message) -> Status {
+    tell_of(b"", message)
 }

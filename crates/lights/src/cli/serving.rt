@@ -1,16 +1,18 @@
 // Lines of standard input, each answered as it comes: command lines, words, op lines, or the bench's.
-use super::arguments::Arguments;
 use super::arguments::Source;
 use super::commands;
-use super::help;
 use super::input;
 use super::input::Found;
 use super::output::Channel;
-use super::output::lost;
+use super::output::tell;
 use super::status::Status;
 use super::status::is_lost;
 use super::status::worse;
 use crate::bench::answers;
+use crate::sentences::say::lost;
+use crate::sentences::say::malformed;
+use crate::sentences::say::say_only;
+use crate::sentences::templates;
 use crate::sheets::ops;
 use machine::Chip;
 
@@ -31,23 +33,16 @@ pub struct Talk {
     pub status: Status,
 }
 
-pub fn begun(mode: Mode) -> Talk {
+// A command that asks for lines.
+pub fn begun(mode: Mode, chip: Chip) -> Talk {
     Talk {
         mode,
-        chip: chip::new_chip(),
-        status: Status::Done,
-    }
-}
-
-pub fn with_chip(chip: Chip) -> Talk {
-    Talk {
-        mode: Mode::Bench,
         chip,
         status: Status::Done,
     }
 }
 
-// A command that asks for no lines.
+// A command that asks for none.
 pub fn ended(status: Status) -> Talk {
     Talk {
         mode: Mode::Over,
@@ -56,171 +51,117 @@ pub fn ended(status: Status) -> Talk {
     }
 }
 
+// One more status.
+fn and(t: Talk, status: Status) -> Talk {
+    let before = t.status;
+    Talk {
+        status: worse(before, status),
+        ..t
+    }
+}
+
 fn is_over(mode: Mode) -> bool {
     if let Mode::Over = mode { true } else { false }
 }
 
-fn is_commands(mode: Mode) -> bool {
-    if let Mode::Commands = mode {
-        true
-    } else {
-        false
-    }
-}
-
-// What the lines are after those of a command that stands among command lines, or alone.
-fn outer(among: bool) -> Mode {
-    if among { Mode::Commands } else { Mode::Over }
-}
-
-// The same lines go on, with one more status.
-fn and(mode: Mode, chip: Chip, before: Status, status: Status) -> Talk {
-    Talk {
-        mode,
-        chip,
-        status: worse(before, status),
-    }
-}
-
-// One command line of several.
-fn command(line: &[u8], chip: Chip, before: Status) -> Talk {
-    let t = commands::command(whole(line), line);
-    let mode = t.mode;
-    let own = t.status;
-    let status = worse(before, own);
-    if is_over(mode) {
-        return Talk {
-            mode: Mode::Commands,
-            chip,
-            status,
-        };
-    }
-    let m = t.chip;
-    Talk {
-        mode,
-        chip: m,
-        status,
-    }
-}
-
-// The arguments of a line; none where it is empty.
-fn whole(line: &[u8]) -> Arguments {
-    if line.len() == 0 {
-        return Arguments {
-            source: Source::Line,
-            at: 1,
-        };
-    }
-    Arguments {
-        source: Source::Line,
-        at: 0,
+// What the lines are after those of a command: among command lines these, else none.
+fn outer(first: Mode) -> Mode {
+    match first {
+        Mode::Commands => first,
+        Mode::Decode | Mode::Encode | Mode::Bench | Mode::Over => Mode::Over,
     }
 }
 
 // `quit` ends the bench, and lines of words or ops that stand among command lines.
-fn quits(mode: Mode, line: &[u8], among: bool) -> bool {
+fn quits(mode: Mode, line: &[u8], outer: Mode) -> bool {
     if !text_parts::same(line, b"quit") {
         return false;
     }
     match mode {
-        Mode::Commands => false,
-        Mode::Decode => among,
-        Mode::Encode => among,
+        Mode::Commands | Mode::Over => false,
+        Mode::Decode | Mode::Encode => !is_over(outer),
         Mode::Bench => true,
-        Mode::Over => false,
     }
 }
 
-fn bench(m: Chip, line: &[u8], before: Status) -> Talk {
-    let a = answers::answer(m, line);
-    let after = a.chip;
-    let status = a.status;
-    and(Mode::Bench, after, before, status)
+// One command line of several.
+fn command(t: Talk, line: &[u8]) -> Talk {
+    let before = t.status;
+    let own = commands::command(Source::Line, line);
+    let mode = own.mode;
+    let status = own.status;
+    if is_over(mode) {
+        return and(t, status);
+    }
+    and(own, before)
 }
 
-fn answered(t: Talk, line: &[u8]) -> Talk {
-    let mode = t.mode;
+fn bench(t: Talk, line: &[u8]) -> Talk {
     let m = t.chip;
     let before = t.status;
+    let a = answers::answer(m, line);
+    let chip = a.chip;
+    let own = a.status;
+    Talk {
+        mode: Mode::Bench,
+        chip,
+        status: worse(before, own),
+    }
+}
+
+fn answered(t: Talk, line: &[u8], outer: Mode) -> Talk {
+    let mode = t.mode;
+    if quits(mode, line, outer) {
+        return Talk { mode: outer, ..t };
+    }
     match mode {
-        Mode::Commands => command(line, m, before),
-        Mode::Decode => and(mode, m, before, ops::decode_line(line)),
-        Mode::Encode => and(mode, m, before, ops::encode(line)),
-        Mode::Bench => bench(m, line, before),
+        Mode::Commands => command(t, line),
+        Mode::Decode => and(t, ops::decode_line(line)),
+        Mode::Encode => and(t, ops::encode(line)),
+        Mode::Bench => bench(t, line),
         Mode::Over => t,
     }
 }
 
-fn with_mode(t: Talk, mode: Mode) -> Talk {
-    let m = t.chip;
-    let status = t.status;
-    Talk {
-        mode,
-        chip: m,
-        status,
-    }
-}
-
-fn with_status(t: Talk, mode: Mode, status: Status) -> Talk {
-    let m = t.chip;
-    let before = t.status;
-    and(mode, m, before, status)
-}
-
 // A line, or what stands in its place.
-fn next(t: Talk, found: Found, line: &[u8], among: bool) -> Talk {
-    let mode = t.mode;
+fn next(t: Talk, found: Found, line: &[u8], outer: Mode) -> Talk {
     match found {
-        Found::Line => line_answered(t, line, among),
-        Found::TooLong => with_status(
-            t,
-            mode,
-            help::malformed(Channel::Output, b"the line has more than 65535 bytes"),
-        ),
-        Found::End => with_mode(t, Mode::Over),
-        Found::Broken => with_status(
-            t,
-            Mode::Over,
-            lost(b"lights: standard input can't be read\n"),
-        ),
-        Found::Nothing => with_status(t, Mode::Over, lost(b"lights: standard input has no end\n")),
+        Found::Line => answered(t, line, outer),
+        Found::TooLong => and(t, tell(malformed(Channel::Output, templates::LONG_LINE))),
+        Found::End => Talk {
+            mode: Mode::Over,
+            ..t
+        },
+        Found::Broken => and(t, tell(lost(templates::INPUT_BROKEN))),
+        Found::Nothing => and(t, tell(lost(templates::INPUT_ENDLESS))),
     }
-}
-
-fn line_answered(t: Talk, line: &[u8], among: bool) -> Talk {
-    let mode = t.mode;
-    if quits(mode, line, among) {
-        return with_mode(t, outer(among));
-    }
-    answered(t, line)
-}
-
-fn goes_on(mode: Mode, status: Status) -> bool {
-    if is_over(mode) {
-        return false;
-    }
-    !is_lost(status)
 }
 
 // Answers line by line, to the end of the input or as far as the lines are wanted.
-pub fn serve(start: Talk, buf: &mut [u8]) -> Status {
+fn serve(start: Talk, buf: &mut [u8]) -> Status {
     let first = start.mode;
-    let among = is_commands(first);
+    let outer = outer(first);
     let mut t = start;
-    let mut at = input::none_yet();
+    let mut at = input::NONE_YET;
     let mut left: u64 = input::MOST;
     while left > 0 {
         let mode = t.mode;
         let status = t.status;
-        if !goes_on(mode, status) {
+        if is_over(mode) || is_lost(status) {
             return status;
         }
         at = input::next(buf, at);
         let found = at.found;
         let begin = at.at;
         let stop = at.stop;
-        t = next(t, found, &buf[begin..stop], among);
+        t = next(t, found, &buf[begin..stop], outer);
         left -= 1;
     }
     Status::Lost
+}
+
+// The program's command line, and the lines that it asks for.
+pub fn run() -> Status {
+    let mut buf = io::large_buffer();
+    serve(commands::command(Source::Program, b""), &mut buf)
 }

@@ -10,17 +10,19 @@ pub enum Status {
     Lost,
 }
 
-fn rank(status: Status) -> u8 {
-    match status {
-        Status::Done => 0,
-        Status::Refused => 1,
-        Status::Failed => 2,
-        Status::Lost => 3,
-    }
-}
-
 pub fn worse(a: Status, b: Status) -> Status {
-    if rank(a) < rank(b) { b } else { a }
+    match a {
+        Status::Done => b,
+        Status::Refused => match b {
+            Status::Done => a,
+            Status::Refused | Status::Failed | Status::Lost => b,
+        },
+        Status::Failed => match b {
+            Status::Done | Status::Refused | Status::Failed => a,
+            Status::Lost => b,
+        },
+        Status::Lost => a,
+    }
 }
 
 pub fn is_lost(status: Status) -> bool {

@@ -4,103 +4,75 @@ use super::columns;
 use super::levels;
 use super::levels::Levels;
 use super::names;
-use super::patterns::put_pattern;
+use super::patterns;
+use super::patterns::put_piece;
 use super::pixels;
 use super::xml::put_text;
+use crate::texts::pieces::SPACE;
+use crate::texts::pieces::nth;
 use machine::Chip;
 use text_writing::put_bytes;
 ghost use Prim.Native.Nat.{_<_, _≤_};
 
-// The level from x on, where it is another than before.
-fn put_change(out: &mut [u8], at: usize, x: u32, before: u32, y: u32) -> usize {
-    if y == before {
-        return at;
-    }
-    put_pattern(out, at, b"HXVY", x, y)
-}
-
-// The levels of output k, each from its column's left end on.
-fn put_levels(out: &mut [u8], at: usize, levels: &Levels, count: u64, k: u32) -> usize
-    requires { ⌜ (count ≤ 480) × (k < 10) ⌝ }
+// The levels of output k, each from its column's left end on, where it is another than before.
+fn put_levels(
+    out: &mut [u8],
+    at: usize,
+    levels: &Levels,
+    count: u64,
+    k: usize,
+    ground: u32,
+) -> usize
+    requires { ⌜ (count ≤ 480) × (k < 10) × (32 ≤ ground) ⌝ }
 {
     let mut next = at;
-    let mut before = pixels::ground(k);
+    let mut before = ground;
     let mut i: u64 = 0;
     while i < count {
-        let y = pixels::height(k, levels::level_at(levels, i as usize, k as usize));
-        next = put_change(out, next, pixels::across(i, count), before, y);
-        before = y;
+        // the height is rounded up, so that every light is seen
+        let height = (levels::level_at(levels, i, k) as u32 * pixels::FULL + 254) / 255;
+        let y = ground - height;
+        let x = pixels::across(i, count);
         i += 1;
+        if y != before {
+            next = put_piece(out, next, patterns::CHANGE, x, y);
+            before = y;
+        }
     }
     next
 }
 
 // Output k's name, its ground and its curve.
-fn put_lane(out: &mut [u8], at: usize, levels: &Levels, count: u64, k: u32) -> usize
+fn put_lane(out: &mut [u8], at: usize, levels: &Levels, count: u64, k: usize) -> usize
     requires { ⌜ (count ≤ 480) × (k < 10) ⌝ }
 {
-    let y = pixels::ground(k);
-    let begun = put_pattern(out, at, b"<text class=\"name\" x=\"50\" y=\"Y\">", 0, y);
-    let named = names::put_name(out, begun, k, b"DX", b"GPO");
-    let ground = put_pattern(
-        out,
-        named,
-        b"</text>\n<path class=\"ground\" d=\"M60 YH1020\"/>\n<path class=\"light\" d=\"M60 Y",
-        0,
-        y,
-    );
-    let curve = put_levels(out, ground, levels, count, k);
-    put_pattern(out, curve, b"H1020VYZ\"/>\n", 0, y)
-}
-
-fn put_lanes(out: &mut [u8], at: usize, levels: &Levels, count: u64) -> usize
-    requires { ⌜ count ≤ 480 ⌝ }
-{
-    let mut next = at;
-    let mut k: u32 = 0;
-    while k < names::OUTPUTS {
-        next = put_lane(out, next, levels, count, k);
-        k += 1;
-    }
-    next
-}
-
-fn put_style(out: &mut [u8], at: usize) -> usize {
-    put_bytes(
-        out,
-        at,
-        b"<style>text{fill:#333}.name{text-anchor:end}.time{text-anchor:middle}.light{fill:#f4a900}.ground{stroke:#bbb}.grid{stroke:#e4e4e4}.axis{stroke:#888}</style>\n<rect width=\"1080\" height=\"504\" fill=\"#fff\"/>\n",
-    )
-}
-
-fn put_title(out: &mut [u8], title: &[u8]) -> usize {
-    let begun = put_bytes(
-        out,
-        0,
-        b"<svg xmlns=\"http://www.w3.org/2000/svg\" viewBox=\"0 0 1080 504\" font-family=\"sans-serif\" font-size=\"14\">\n<title>",
-    );
-    let named = put_text(out, begun, title);
-    put_bytes(out, named, b"</title>\n")
-}
-
-fn put_heading(out: &mut [u8], at: usize, title: &[u8]) -> usize {
-    let begun = put_bytes(out, at, b"<text x=\"60\" y=\"34\" font-size=\"18\">");
-    let headed = put_text(out, begun, title);
-    put_bytes(out, headed, b"</text>\n")
+    let ground = (pixels::GROUND + k * pixels::LANE) as u32;
+    let begun = put_piece(out, at, patterns::NAME, ground, 0);
+    let named = put_bytes(out, begun, nth(&names::NAMES, k, SPACE));
+    let laid = put_piece(out, named, patterns::CURVE, ground, ground);
+    let drawn = put_levels(out, laid, levels, count, k, ground);
+    put_piece(out, drawn, patterns::CURVE_END, ground, 0)
 }
 
 fn put_head(out: &mut [u8], title: &[u8]) -> usize {
-    let named = put_title(out, title);
-    let styled = put_style(out, named);
-    put_heading(out, styled, title)
+    let begun = put_piece(out, 0, patterns::TITLE, 0, 0);
+    let titled = put_text(out, begun, title);
+    let heading = put_piece(out, titled, patterns::HEADING, 0, 0);
+    let headed = put_text(out, heading, title);
+    put_piece(out, headed, patterns::TEXT_END, 0, 0)
 }
 
 pub fn svg(out: &mut [u8], title: &[u8], m: Chip, from: u32, beats: u32) -> usize {
     let mut levels = [0u8; 4800];
-    let c = columns::in_columns(beats, columns::IN_A_CURVE);
-    levels::sample_from(m, from, c, &mut levels);
+    let n = beats as u64;
+    let count = columns::count_of(n, columns::IN_A_CURVE);
+    levels::sample(m, from, n, count, &mut levels);
     let head = put_head(out, title);
-    let axis = axis::put_axis(out, head, from as u64, c.beats);
-    let lanes = put_lanes(out, axis, &levels, c.count);
-    put_bytes(out, lanes, b"</svg>\n")
+    let mut next = axis::put_axis(out, head, from as u64, n);
+    let mut k: usize = 0;
+    while k < names::OUTPUTS {
+        next = put_lane(out, next, &levels, count, k);
+        k += 1;
+    }
+    put_piece(out, next, patterns::END, 0, 0)
 }

@@ -1,19 +1,9 @@
 // The outputs' names.
-use super::patterns::put_pattern;
-use text_writing::put_bytes;
-ghost use Prim.Native.Nat.{_<_};
+pub const OUTPUTS: usize = 10;
 
-pub const OUTPUTS: u32 = 10;
+// With spaces between them.
+pub const NAMES: [u8; 30] = *b"D1 D2 D3 D4 D5 D6 D7 D8 D9 GPO";
 
-// The GPO comes after D1 to D9.
-const GPO: u32 = 9;
-
-// Output k by its pattern, where X stands for its number, or as the GPO.
-pub fn put_name(out: &mut [u8], at: usize, k: u32, pattern: &[u8], gpo: &[u8]) -> usize
-    requires { ⌜ k < 10 ⌝ }
-{
-    if k == GPO {
-        return put_bytes(out, at, gpo);
-    }
-    put_pattern(out, at, pattern, k + 1, 0)
-}
+// The labels of their rows, with NULs between them.
+pub const LABELS: [u8; 59] =
+    *b"D1  |\0D2  |\0D3  |\0D4  |\0D5  |\0D6  |\0D7  |\0D8  |\0D9  |\0GPO |";

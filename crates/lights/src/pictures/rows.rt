@@ -4,58 +4,38 @@ use super::levels;
 use super::levels::Levels;
 use super::names;
 use super::scale;
+use crate::texts::pieces::nth;
 use machine::Chip;
 use text_writing::put_byte;
 use text_writing::put_bytes;
 ghost use Prim.Native.Nat.{_<_, _≤_};
 
-// Ten shades from dark to full, rounded up.
-fn shade(level: u8) -> u8 {
-    let shades = b" .:-=+*#%@";
-    let at = (level as usize * 9 + 254) / 255;
-    shades[at]
-}
-
-fn put_shades(out: &mut [u8], at: usize, levels: &Levels, count: u64, k: u32) -> usize
+// Output k's label, its shades and a bar.
+fn put_row(out: &mut [u8], at: usize, levels: &Levels, count: u64, k: usize) -> usize
     requires { ⌜ (count ≤ 480) × (k < 10) ⌝ }
 {
-    let mut next = at;
+    let shades = b" .:-=+*#%@";
+    let mut next = put_bytes(out, at, nth(&names::LABELS, k, 0));
     let mut i: u64 = 0;
     while i < count {
-        next = put_byte(
-            out,
-            next,
-            shade(levels::level_at(levels, i as usize, k as usize)),
-        );
+        // ten shades from dark to full, rounded up
+        let level = levels::level_at(levels, i, k);
+        next = put_byte(out, next, shades[(level as usize * 9 + 254) / 255]);
         i += 1;
     }
-    next
-}
-
-fn put_row(out: &mut [u8], at: usize, levels: &Levels, count: u64, k: u32) -> usize
-    requires { ⌜ (count ≤ 480) × (k < 10) ⌝ }
-{
-    let label = names::put_name(out, at, k, b"DX  |", b"GPO |");
-    let row = put_shades(out, label, levels, count, k);
-    put_bytes(out, row, b"|\n")
-}
-
-fn put_rows(out: &mut [u8], levels: &Levels, count: u64) -> usize
-    requires { ⌜ count ≤ 480 ⌝ }
-{
-    let mut next: usize = 0;
-    let mut k: u32 = 0;
-    while k < names::OUTPUTS {
-        next = put_row(out, next, levels, count, k);
-        k += 1;
-    }
-    next
+    put_bytes(out, next, b"|\n")
 }
 
 pub fn show(out: &mut [u8], m: Chip, from: u32, beats: u32) -> usize {
     let mut levels = [0u8; 4800];
-    let c = columns::in_columns(beats, columns::IN_A_ROW);
-    levels::sample_from(m, from, c, &mut levels);
-    let rows = put_rows(out, &levels, c.count);
-    scale::put_scale(out, rows, c, from as u64)
+    let n = beats as u64;
+    let count = columns::count_of(n, columns::IN_A_ROW);
+    levels::sample(m, from, n, count, &mut levels);
+    let mut next: usize = 0;
+    let mut k: usize = 0;
+    while k < names::OUTPUTS {
+        next = put_row(out, next, &levels, count, k);
+        k += 1;
+    }
+    scale::put_scale(out, next, from as u64, n, count)
 }

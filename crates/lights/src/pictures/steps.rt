@@ -1,8 +1,5 @@
 // The steps from mark to mark: 1, 2 or 5 times a power of ten of moments.
-ghost use Prim.Native.Nat.{_*_, _≤_};
-
-// The coarsest step.
-pub const COARSEST: u32 = 29;
+ghost use Prim.Native.Nat.{_*_, _<_, _≤_};
 
 pub struct Step {
     pub size: u64,
@@ -10,37 +7,26 @@ pub struct Step {
     pub unit: u64,
 }
 
-fn power_of_ten(n: u32) -> u64
-    ensures { λ r. ⌜ (1 ≤ r) × (r ≤ 1000000000) ⌝ }
+// The next coarser step.
+pub(super) fn coarser(s: Step) -> Step
+    requires { ⌜ (1 ≤ s .unit) × (s .unit ≤ s .size) × (s .size < 10 * s .unit) × (s .size ≤ 50000000000) ⌝ }
+    ensures { λ r. ⌜ (1 ≤ r .unit) × (r .unit ≤ r .size) × (r .size < 10 * r .unit) × (s .size < r .size) × (r .size ≤ 500000000000) ⌝ }
 {
-    match n {
-        0 => 1,
-        1 => 10,
-        2 => 100,
-        3 => 1000,
-        4 => 10_000,
-        5 => 100_000,
-        6 => 1_000_000,
-        7 => 10_000_000,
-        8 => 100_000_000,
-        _ => 1_000_000_000,
-    }
-}
-
-// Step k, from the finest, 0, up.
-pub fn step_of(k: u32) -> Step
-    ensures { λ r. ⌜ (1 ≤ r .size) × (r .size ≤ 5000000000) ⌝ }
-{
-    let unit = power_of_ten(k / 3);
-    match k % 3 {
-        0 => Step { size: unit, unit },
-        1 => Step {
+    let unit = s.unit;
+    if s.size == unit {
+        return Step {
             size: 2 * unit,
             unit,
-        },
-        _ => Step {
+        };
+    }
+    if s.size == 2 * unit {
+        return Step {
             size: 5 * unit,
             unit,
-        },
+        };
+    }
+    Step {
+        size: 10 * unit,
+        unit: 10 * unit,
     }
 }

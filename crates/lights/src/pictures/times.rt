@@ -8,56 +8,23 @@ ghost use Prim.Native.Nat.{_+_, _*_, _<_, _≤_};
 const SECOND: u64 = 10_000;
 
 // The first moment that is not before a beat.
-pub fn moment_of(beat: u64) -> u64
+pub(super) fn moment_of(beat: u64) -> u64
     requires { ⌜ beat ≤ 8589934590 ⌝ }
     ensures { λ r. ⌜ (beat * 625 ≤ r * 128) × (r * 128 < beat * 625 + 128) × (r ≤ 50000000000) ⌝ }
 {
     (beat * 625 + 127) / 128
 }
 
-// The last moment that is not after a beat's begin.
-pub fn last_moment(beat: u64) -> u64
-    requires { ⌜ beat ≤ 8589934590 ⌝ }
-    ensures { λ r. ⌜ (r * 128 ≤ beat * 625) × (r ≤ 50000000000) ⌝ }
-{
-    beat * 625 / 128
-}
-
-// The beat in which a moment lies.
-pub fn beat_of(moment: u64) -> u64
-    requires { ⌜ moment ≤ 50000000000 ⌝ }
-    ensures { λ r. ⌜ (r * 625 ≤ moment * 128) × (moment * 128 < r * 625 + 625) ⌝ }
-{
-    moment * 128 / 625
-}
-
-// The last decimal digit of a number.
-fn put_digit(out: &mut [u8], at: usize, n: u64) -> usize {
-    put_byte(out, at, (48 + n % 10) as u8)
-}
-
-// The digits after the point, down to the unit: 1000 is a tenth of a second.
-fn put_digits(out: &mut [u8], at: usize, moment: u64, unit: u64) -> usize {
-    let mut next = at;
-    let mut place: u64 = 1000;
-    while place > 0 {
-        if place < unit {
-            return next;
-        }
-        next = put_digit(out, next, moment / place);
-        place /= 10;
-    }
-    next
-}
-
 // A moment in seconds, with as many digits as a multiple of the unit, a power of ten, needs.
-pub fn put_time(out: &mut [u8], at: usize, moment: u64, unit: u64) -> usize
-    requires { ⌜ moment ≤ 50000000000 ⌝ }
+pub(super) fn put_time(out: &mut [u8], at: usize, moment: u64, unit: u64) -> usize
+    requires { ⌜ (moment ≤ 50000000000) × (1 ≤ unit) ⌝ }
 {
     let whole = put_decimal(out, at, (moment / SECOND) as u32);
     if unit >= SECOND {
         return whole;
     }
-    let point = put_byte(out, whole, b'.');
-    put_digits(out, point, moment, unit)
+    // a one before the digits keeps their zeros, and the point takes its place
+    let end = put_decimal(out, whole, ((SECOND + moment % SECOND) / unit) as u32);
+    put_byte(out, whole, b'.');
+    end
 }

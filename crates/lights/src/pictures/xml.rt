@@ -1,11 +1,12 @@
 // Any bytes as a text of XML.
-use super::patterns::put_pattern;
+use super::patterns;
+use super::patterns::put_piece;
 use text_writing::put_byte;
 
 fn put_escaped(out: &mut [u8], at: usize, b: u8) -> usize {
     match b {
         // bytes with a meaning in XML, by their number
-        b'&' | b'<' | b'>' | b'"' => put_pattern(out, at, b"&#X;", b as u32, 0),
+        b'&' | b'<' | b'>' | b'"' => put_piece(out, at, patterns::ESCAPED, b as u32, 0),
         // control bytes
         0..=31 | 127 => put_byte(out, at, b'?'),
         _ => put_byte(out, at, b),

@@ -1,37 +1,50 @@
 // Refusals of a chip's calls.
-use crate::cli::texts::fill;
-use crate::cli::texts::one;
-use crate::cli::texts::wider;
-use crate::sheets::lines::line_at;
+use super::say::Message;
+use super::say::Say;
+use super::say::refused;
+use super::say::say_one;
+use super::say::say_only;
+use super::say::say_two;
+use super::templates;
 use machine::Outcome;
-use text_writing::put_bytes;
+use word::WORDS;
 
-// The place of an outcome's sentence in the table.
-fn place(outcome: Outcome) -> usize {
+const LAST_ADDRESS: u32 = (WORDS - 1) as u32;
+
+// A page has sixteen words.
+const LAST_PAGE: u32 = LAST_ADDRESS / 16;
+
+fn sentence(outcome: Outcome) -> Say {
     match outcome {
-        Outcome::Success => 0,
-        Outcome::EmptyBurst => 1,
-        Outcome::UnlistedAddress => 2,
-        Outcome::OutsideRegister => 3,
-        Outcome::LoadRefused => 4,
-        Outcome::StartInUse => 5,
-        Outcome::MemoryInUse => 6,
-        Outcome::OutputHeld => 7,
-        Outcome::TooManyBeats => 8,
+        Outcome::Success => say_only(templates::DONE),
+        Outcome::EmptyBurst => say_only(templates::EMPTY_BURST),
+        Outcome::UnlistedAddress => say_only(templates::UNLISTED_ADDRESS),
+        Outcome::OutsideRegister => say_two(templates::OUTSIDE_REGISTER, LAST_PAGE, LAST_ADDRESS),
+        Outcome::LoadRefused => say_only(templates::LOAD_REFUSED),
+        Outcome::StartInUse => say_only(templates::START_IN_USE),
+        Outcome::MemoryInUse => say_only(templates::MEMORY_IN_USE),
+        Outcome::OutputHeld => say_only(templates::OUTPUT_HELD),
+        Outcome::TooManyBeats => say_one(templates::TOO_MANY_BEATS, chip::MOST_BEATS),
     }
 }
 
-// A call's refusal as a line.
-pub fn put_refusal(out: &mut [u8], at: usize, outcome: Outcome) -> usize {
-    let table =
-        b"done\na burst has at least one byte\nan address of the burst is no register\na reserved bit is set, the page is above 5 or a start above 95\nan engine can be loaded only from disabled\nthe engine is in run or halt, so its start can't be written\nmemory can be written only while an engine loads and none is in a word\nan engine holds the output\na run has at most % beats\n";
-    let number = wider(outcomes::number_of(outcome));
-    let head = fill(out, at, b"refused %: ", one(number));
-    let end = fill(
-        out,
-        head,
-        line_at(table, place(outcome)),
-        one(chip::MOST_BEATS),
-    );
-    put_bytes(out, end, b"\n")
+// A call's refusal, after this head, which has its number.
+pub fn of_outcome(head: usize, outcome: Outcome) -> Message {
+    let number = outcomes::number_of(outcome) as u32;
+    refused(say_one(head, number), sentence(outcome))
+}
+
+// What a run did: its beats and words, and whether it ended as all was quiet.
+pub fn counts(beats: u32, words: [u32; 3], quiet: bool) -> Say {
+    let numbers = [beats, words[0], words[1], words[2], 0, 0, 0, 0];
+    if quiet {
+        return Say {
+            template: templates::COUNTS_QUIET,
+            numbers,
+        };
+    }
+    Say {
+        template: templates::COUNTS,
+        numbers,
+    }
 }

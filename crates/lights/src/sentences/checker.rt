@@ -1,31 +1,30 @@
 // Refusals of the checker and of the disassembler.
-use crate::cli::texts::fill;
-use crate::cli::texts::one;
-use crate::cli::texts::three;
-use crate::cli::texts::two;
-use crate::cli::texts::wider;
+use super::say::Message;
+use super::say::Say;
+use super::say::refused;
+use super::say::right;
+use super::say::say_one;
+use super::say::say_only;
+use super::say::say_three;
+use super::say::say_two;
+use super::templates;
 use asm::Disassembled;
 use plan::EnginePlan;
 use plan::Plan;
 use plan::Stray;
 use plan::Verdict;
-use text_writing::put_bytes;
 use word::Address;
 use word::MuxAtOp;
+use word::WORDS;
 use word::Word;
+
+// The address of the last word.
+const LAST_ADDRESS: u32 = (WORDS - 1) as u32;
 
 // What the program was made from: a sheet has a line for each word, an image none.
 pub enum Origin {
     Sheet,
     Image,
-}
-
-// The place of a refusal, with its number.
-struct Place {
-    origin: Origin,
-    number: u16,
-    engine: u16,
-    address: Address,
 }
 
 fn plan_of(p: Plan, engine: u16) -> EnginePlan {
@@ -47,27 +46,59 @@ fn word_at(image: &[u16], address: Address) -> Word {
     Word::Undefined
 }
 
-// The line of the word in its sheet.
-fn put_line(out: &mut [u8], at: usize, origin: Origin, address: Address) -> usize {
+// At a word of an engine.
+fn word_head(origin: Origin, number: u32, engine: u32, address: u16) -> Say {
     match origin {
-        Origin::Sheet => fill(out, at, b":%", one(sheet_places::line_of(address.0))),
-        Origin::Image => at,
+        Origin::Sheet => Say {
+            template: templates::REFUSED_WORD_LINE,
+            numbers: [
+                sheet_places::line_of(address),
+                number,
+                engine,
+                address as u32,
+                0,
+                0,
+                0,
+                0,
+            ],
+        },
+        Origin::Image => { say_three(templates::REFUSED_WORD, number, engine, address as u32) },
     }
 }
 
-fn put_place(out: &mut [u8], at: usize, place: Place) -> usize {
-    let origin = place.origin;
-    let number = wider(place.number);
-    let engine = wider(place.engine);
-    let address = place.address;
-    let next = put_line(out, at, origin, address);
-    let template = b": refused % engine=% address=%: ";
-    fill(out, next, template, three(number, engine, wider(address.0)))
-}
-
-fn put_at_word(out: &mut [u8], at: usize, place: Place, sentence: &[u8]) -> usize {
-    let next = put_place(out, at, place);
-    put_bytes(out, next, sentence)
+// What stands before the sentence.
+fn head_of(origin: Origin, verdict: Verdict) -> Say {
+    let report = verdicts::report_of(verdict);
+    let number = report.number as u32;
+    let engine = report.engine as u32;
+    let address = report.address;
+    match verdict {
+        Verdict::Accept => say_only(templates::NAMED),
+        Verdict::WrongLength => say_one(templates::REFUSED_FILE, number),
+        Verdict::OutOfOrder { engine: _ } | Verdict::CodeMeetsTable { engine: _ } => {
+            say_two(templates::REFUSED_ENGINE, number, engine)
+        }
+        Verdict::UndefinedWord {
+            engine: _,
+            address: _,
+        }
+        | Verdict::SuccessorOutside {
+            engine: _,
+            address: _,
+        }
+        | Verdict::TableMisused {
+            engine: _,
+            address: _,
+        }
+        | Verdict::TableNotOpened {
+            engine: _,
+            address: _,
+        }
+        | Verdict::ReservedRowBit {
+            engine: _,
+            address: _,
+        } => { word_head(origin, number, engine, address) }
+    }
 }
 
 struct Range {
@@ -95,50 +126,19 @@ fn range_of(q: EnginePlan) -> Range {
 }
 
 // 14: where the word can step to.
-fn put_stray(out: &mut [u8], at: usize, place: Place, q: EnginePlan, w: Word) -> usize {
-    let engine = wider(place.engine);
-    let address = place.address;
-    let from = wider(address.0);
+fn of_stray(engine: u32, q: EnginePlan, address: Address, w: Word) -> Say {
     let r = range_of(q);
-    let next = put_place(out, at, place);
     match plan_successors::stray_of(q, address.0, plan_successors::flow_of(w)) {
-        Stray::Inside => fill(
-            out,
-            next,
-            b"engine % can leave its words % to %\n",
-            three(engine, r.first, r.last),
-        ),
-        Stray::To(to) => fill(
-            out,
-            next,
-            b"engine % can step from word % to word %, outside its words % to %\n",
-            [engine, from, to, r.first, r.last, 0, 0, 0],
-        ),
+        Stray::Inside => say_three(templates::LEAVES, engine, r.first, r.last),
+        Stray::To(to) => Say {
+            template: templates::STEP_OUTSIDE,
+            numbers: [engine, address.0 as u32, to, r.first, r.last, 0, 0, 0],
+        },
     }
 }
 
-// 15, with a table: which of its numbers the word misses.
-fn put_missed(out: &mut [u8], at: usize, op: MuxAtOp, top: u32, bottom: u32, has: u32) -> usize {
-    let start = b"the table begins at word %, this word has %\n";
-    let row = b"the table is words % to %, this word has %\n";
-    match op {
-        MuxAtOp::MuxMapStart => fill(out, at, start, two(top, has)),
-        MuxAtOp::MuxLdStart => fill(out, at, start, two(top, has)),
-        MuxAtOp::MuxLdEnd => fill(
-            out,
-            at,
-            b"the table ends at word %, this word has %\n",
-            two(bottom, has),
-        ),
-        MuxAtOp::MuxLdAddr => fill(out, at, row, three(top, bottom, has)),
-        MuxAtOp::MuxMapAddr => fill(out, at, row, three(top, bottom, has)),
-    }
-}
-
-// 15: without a table only mux-clr and mux-sel are left.
-fn put_misuse(out: &mut [u8], at: usize, place: Place, q: EnginePlan, w: Word) -> usize {
-    let engine = wider(place.engine);
-    let next = put_place(out, at, place);
+// 15: which of the table's numbers the word misses; without a table only mux-clr and mux-sel are left.
+fn of_misuse(engine: u32, q: EnginePlan, w: Word) -> Say {
     let EnginePlan::CodeAndTable {
         first: _,
         last: _,
@@ -146,146 +146,68 @@ fn put_misuse(out: &mut [u8], at: usize, place: Place, q: EnginePlan, w: Word) -
         bottom,
     } = q
     else {
-        return fill(
-            out,
-            next,
-            b"engine % has no table, so mux-clr and mux-sel are its only mux words\n",
-            one(engine),
-        );
+        return say_one(templates::NO_TABLE, engine);
     };
     let Word::MuxAt { op, address } = w else {
-        return put_bytes(out, next, b"this word doesn't keep to the table\n");
+        return say_only(templates::TABLE_MISUSED);
     };
-    put_missed(
-        out,
-        next,
-        op,
-        wider(top.0),
-        wider(bottom.0),
-        wider(address.0),
-    )
-}
-
-// 11 and 12: with the engine alone.
-fn put_engine(out: &mut [u8], at: usize, number: u16, engine: u16, sentence: &[u8]) -> usize {
-    let head = b": refused % engine=%: ";
-    let next = fill(out, at, head, two(wider(number), wider(engine)));
-    put_bytes(out, next, sentence)
-}
-
-// A refusal without a place.
-fn put_plain(out: &mut [u8], at: usize, number: u16, sentence: &[u8]) -> usize {
-    let next = fill(out, at, b": refused %: ", one(wider(number)));
-    put_bytes(out, next, sentence)
-}
-
-// A refusal at a word of an engine.
-fn put_word(
-    out: &mut [u8],
-    at: usize,
-    place: Place,
-    q: EnginePlan,
-    w: Word,
-    verdict: Verdict,
-) -> usize {
-    match verdict {
-        Verdict::Accept => at,
-        Verdict::WrongLength => put_plain(out, at, place.number, b"an image has 96 words\n"),
-        Verdict::OutOfOrder { engine } => put_engine(
-            out,
-            at,
-            place.number,
-            engine,
-            b"first is above last, top above bottom, or one of them above 95\n",
-        ),
-        Verdict::CodeMeetsTable { engine } => put_engine(
-            out,
-            at,
-            place.number,
-            engine,
-            b"its code has an address in common with a table\n",
-        ),
-        Verdict::UndefinedWord {
-            engine: _,
-            address: _,
-        } => put_at_word(out, at, place, b"this word is no instruction\n"),
-        Verdict::SuccessorOutside {
-            engine: _,
-            address: _,
-        } => put_stray(out, at, place, q, w),
-        Verdict::TableMisused {
-            engine: _,
-            address: _,
-        } => put_misuse(out, at, place, q, w),
-        Verdict::TableNotOpened {
-            engine: _,
-            address: _,
-        } => put_at_word(
-            out,
-            at,
-            place,
-            b"with a table the code begins with mux-map-start or mux-ld-start, then mux-ld-end\n",
-        ),
-        Verdict::ReservedRowBit {
-            engine: _,
-            address: _,
-        } => put_at_word(
-            out,
-            at,
-            place,
-            b"a row has bits 0 to 8 for D1 to D9 and bit 15 for the GPO, and no others\n",
-        ),
+    let has = address.0 as u32;
+    let begin = top.0 as u32;
+    let end = bottom.0 as u32;
+    match op {
+        MuxAtOp::MuxMapStart | MuxAtOp::MuxLdStart => say_two(templates::TABLE_BEGIN, begin, has),
+        MuxAtOp::MuxLdEnd => say_two(templates::TABLE_END, end, has),
+        MuxAtOp::MuxLdAddr | MuxAtOp::MuxMapAddr => {
+            say_three(templates::TABLE_ROW, begin, end, has)
+        }
     }
 }
 
-// A refusal as a line, after the name of its file.
-pub fn put_refusal(
-    out: &mut [u8],
-    at: usize,
-    origin: Origin,
-    plan: Plan,
-    image: &[u16],
-    verdict: Verdict,
-) -> usize {
-    let report = verdicts::report_of(verdict);
-    let address = Address(report.address);
-    let engine = report.engine;
-    let number = report.number;
-    let place = Place {
-        origin,
-        number,
-        engine,
-        address,
-    };
-    put_word(
-        out,
-        at,
-        place,
-        plan_of(plan, engine),
-        word_at(image, address),
-        verdict,
-    )
+fn sentence(plan: Plan, image: &[u16], verdict: Verdict) -> Say {
+    match verdict {
+        Verdict::Accept => say_only(templates::ACCEPTED),
+        Verdict::WrongLength => say_one(templates::IMAGE_LENGTH, WORDS as u32),
+        Verdict::OutOfOrder { engine: _ } => say_one(templates::OUT_OF_ORDER, LAST_ADDRESS),
+        Verdict::CodeMeetsTable { engine: _ } => say_only(templates::CODE_MEETS_TABLE),
+        Verdict::UndefinedWord {
+            engine: _,
+            address: _,
+        } => say_only(templates::UNDEFINED_WORD),
+        Verdict::SuccessorOutside { engine, address } => of_stray(
+            engine as u32,
+            plan_of(plan, engine),
+            address,
+            word_at(image, address),
+        ),
+        Verdict::TableMisused { engine, address } => of_misuse(
+            engine as u32,
+            plan_of(plan, engine),
+            word_at(image, address),
+        ),
+        Verdict::TableNotOpened {
+            engine: _,
+            address: _,
+        } => say_only(templates::TABLE_NOT_OPENED),
+        Verdict::ReservedRowBit {
+            engine: _,
+            address: _,
+        } => say_only(templates::ROW_BITS),
+    }
 }
 
-// What the disassembler refuses, as a line.
-pub fn put_not_written(
-    out: &mut [u8],
-    at: usize,
-    plan: Plan,
-    image: &[u16],
-    answer: Disassembled,
-) -> usize {
-    let report = sheet_answers::written_report_of(answer);
+pub fn of_verdict(origin: Origin, plan: Plan, image: &[u16], verdict: Verdict) -> Message {
+    refused(head_of(origin, verdict), sentence(plan, image, verdict))
+}
+
+// What the disassembler refuses.
+pub fn of_written(plan: Plan, image: &[u16], answer: Disassembled) -> Message {
+    let number = sheet_answers::written_report_of(answer).number as u32;
     match answer {
-        Disassembled::Length(_) => at,
-        Disassembled::Refused(verdict) => {
-            put_refusal(out, at, Origin::Image, plan, image, verdict)
-        }
-        Disassembled::TooShort => put_plain(
-            out,
-            at,
-            report.number,
-            b"the sheet is longer than the program can hold\n",
+        Disassembled::Length(_) => right(templates::DONE),
+        Disassembled::Refused(verdict) => of_verdict(Origin::Image, plan, image, verdict),
+        Disassembled::TooShort => refused(
+            say_one(templates::REFUSED_FILE, number),
+            say_only(templates::LONG_SHEET),
         ),
     }
 }

@@ -1,11 +1,14 @@
 // A program loaded into a new chip by register writes.
 ghost use Prim.Native.Nat.{_≤_};
-use crate::cli::output::lost;
+use crate::cli::output::tell;
+use crate::sentences::say::lost;
+use crate::sentences::templates;
 use machine::Chip;
 use machine::Written;
 use plan::EnginePlan;
 use plan::Plan;
 use word::Address;
+use word::WORDS;
 
 const CONTROL: u16 = 0x00;
 
@@ -27,7 +30,7 @@ const ALL_LOAD: u8 = 21;
 fn done(written: Written) -> Chip {
     let outcome = written.outcome;
     if !outcomes::is_success(outcome) {
-        lost(b"lights: a write was refused while the program was loaded\n");
+        tell(lost(templates::LOADING_REFUSED));
     }
     written.chip
 }
@@ -38,44 +41,37 @@ fn write(m: Chip, address: u16, byte: u8) -> Chip {
     done(chip::burst(m, address, &bytes))
 }
 
-fn half(w: u16, low: bool) -> u8 {
-    if low {
-        (w % 256) as u8
-    } else {
-        (w / 256) as u8
-    }
+fn high(word: u16) -> u8 {
+    (word / 256) as u8
 }
 
-// Byte k of the image, high byte of each word first.
-fn byte_at(image: &[u16], k: usize) -> u8 {
-    let at = k / 2;
-    if at >= image.len() {
-        return 0;
-    }
-    half(image[at], k % 2 == 1)
+fn low(word: u16) -> u8 {
+    (word % 256) as u8
 }
 
-// The bytes of a page's words.
-fn bytes_of(image: &[u16], page: usize) -> [u8; 32]
+// The bytes of a page's sixteen words, the high byte of each first.
+fn bytes_of(image: &[u16; WORDS], page: usize) -> [u8; 32]
     requires { ⌜ page ≤ 5 ⌝ }
 {
     let mut bytes = [0u8; 32];
     let mut k: usize = 0;
-    while k < 32 {
-        bytes[k] = byte_at(image, page * 32 + k);
+    while k < 16 {
+        let word = image[page * 16 + k];
+        bytes[k * 2] = high(word);
+        bytes[k * 2 + 1] = low(word);
         k += 1;
     }
     bytes
 }
 
-fn with_page(m: Chip, image: &[u16], page: u8) -> Chip
+fn with_page(m: Chip, image: &[u16; WORDS], page: u8) -> Chip
     requires { ⌜ page ≤ 5 ⌝ }
 {
     let bytes = bytes_of(image, page as usize);
     done(chip::burst(write(m, PAGE, page), MEMORY, &bytes))
 }
 
-fn with_memory(m: Chip, image: &[u16]) -> Chip {
+fn with_memory(m: Chip, image: &[u16; WORDS]) -> Chip {
     let mut after = m;
     let mut page: u8 = 0;
     while page < 6 {
@@ -135,7 +131,7 @@ fn used(plan: Plan) -> u8
 }
 
 // The program in memory, its engines in run mode and held.
-pub fn loaded(plan: Plan, image: &[u16]) -> Chip {
+pub fn loaded(plan: Plan, image: &[u16; WORDS]) -> Chip {
     let enabled = write(chip::new_chip(), CONTROL, ENABLE);
     let loading = write(write(enabled, MODES, 0), MODES, ALL_LOAD);
     let filled = with_starts(with_memory(loading, image), plan);

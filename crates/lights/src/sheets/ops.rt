@@ -1,38 +1,38 @@
 // decode and encode: words as op lines, and op lines as words.
-use crate::cli::arguments::part_end;
 use crate::cli::numbers::Hex;
 use crate::cli::numbers::read_hex;
-use crate::cli::output;
 use crate::cli::output::ANSWER;
 use crate::cli::output::Channel;
+use crate::cli::output::made;
+use crate::cli::output::tell;
 use crate::cli::status::Status;
 use crate::cli::status::is_lost;
 use crate::cli::status::worse;
-use crate::cli::texts::put_hex;
-use crate::sentences;
+use crate::sentences::reader;
+use crate::sentences::say::malformed;
+use crate::sentences::say::on_output;
+use crate::sentences::say::plain;
+use crate::sentences::say::say_only;
+use crate::sentences::templates;
+use crate::texts::pieces::SPACE;
+use crate::texts::pieces::after;
+use crate::texts::words::put_hex;
 use op_lines::WordLine;
 use op_lines::WordWritten;
+use text_parts::part_at;
 use text_writing::put_byte;
-
-fn told(text: &[u8], status: Status) -> Status {
-    output::tell(Channel::Output, text, text.len(), status)
-}
-
-fn tell_op(code: u16) -> Status {
-    let mut out = [0u8; ANSWER];
-    let WordWritten::Length(end) = word_disassembler::disassemble_word(code, &mut out) else {
-        return told(b"undefined\n", Status::Done);
-    };
-    let n = put_byte(&mut out, end, b'\n');
-    output::tell(Channel::Output, &out, n, Status::Done)
-}
 
 // A word's op line.
 pub fn decode(word: &[u8]) -> Status {
-    match read_hex(word) {
-        Hex::Word(code) => tell_op(code),
-        Hex::Malformed => told(b"malformed: a word is four hex digits\n", Status::Failed),
-    }
+    let mut out = [0u8; ANSWER];
+    let Hex::Word(code) = read_hex(word) else {
+        return tell(malformed(Channel::Output, templates::NO_WORD));
+    };
+    let WordWritten::Length(end) = word_disassembler::disassemble_word(code, &mut out) else {
+        return tell(plain(say_only(templates::UNDEFINED)));
+    };
+    let n = put_byte(&mut out, end, b'\n');
+    made(&out, n)
 }
 
 // The words of a line, one after the other.
@@ -40,12 +40,11 @@ pub fn decode_line(line: &[u8]) -> Status {
     let mut status = Status::Done;
     let mut at: usize = 0;
     while at <= line.len() {
-        let end = part_end(line, at);
-        status = worse(status, decode(&line[at..end]));
+        status = worse(status, decode(part_at(line, at, SPACE)));
         if is_lost(status) {
             return status;
         }
-        at = end + 1;
+        at = after(line, at, SPACE);
     }
     status
 }
@@ -55,10 +54,9 @@ pub fn encode(line: &[u8]) -> Status {
     let mut out = [0u8; ANSWER];
     let read = op_reader::assemble_line(line);
     let WordLine::Code(code) = read else {
-        let n = sentences::reader::put_op_refusal(&mut out, 0, line, read);
-        return output::tell(Channel::Output, &out, n, Status::Refused);
+        return tell(on_output(reader::of_op_line(line, read)));
     };
     let end = put_hex(&mut out, 0, code);
     let n = put_byte(&mut out, end, b'\n');
-    output::tell(Channel::Output, &out, n, Status::Done)
+    made(&out, n)
 }

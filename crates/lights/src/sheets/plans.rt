@@ -1,7 +1,10 @@
 // An engine's plan from an argument: -, first-last, or first-last/top-bottom.
 use crate::cli::numbers::Number;
 use crate::cli::numbers::read_number;
+use crate::texts::pieces::from;
 use plan::EnginePlan;
+use text_parts::part_at;
+use text_parts::same;
 use word::Address;
 
 pub enum Planned {
@@ -20,11 +23,7 @@ const PAST_MEMORY: u16 = 65535;
 
 // What stands after a byte; no byte where it is missing.
 fn after(argument: &[u8], mark: u8) -> &[u8] {
-    let n = text_parts::part_at(argument, 0, mark).len();
-    if n < argument.len() {
-        return &argument[n + 1..];
-    }
-    &argument[..0]
+    from(argument, part_at(argument, 0, mark).len() + 1)
 }
 
 fn up_to(first: u16, last: Number) -> Range {
@@ -37,15 +36,28 @@ fn up_to(first: u16, last: Number) -> Range {
 
 fn read_range(argument: &[u8]) -> Range {
     let last = read_number(after(argument, b'-'));
-    match read_number(text_parts::part_at(argument, 0, b'-')) {
+    match read_number(part_at(argument, 0, b'-')) {
         Number::Value(n) => up_to(n, last),
         Number::TooLarge => up_to(PAST_MEMORY, last),
         Number::Malformed => Range::Malformed,
     }
 }
 
-fn with_table(first: u16, last: u16, table: &[u8]) -> Planned {
-    let Range::From(top, bottom) = read_range(table) else {
+pub fn read(argument: &[u8]) -> Planned {
+    if same(argument, b"-") {
+        return Planned::Plan(EnginePlan::Unused);
+    }
+    let code = part_at(argument, 0, b'/');
+    let Range::From(first, last) = read_range(code) else {
+        return Planned::Malformed;
+    };
+    if code.len() == argument.len() {
+        return Planned::Plan(EnginePlan::Code {
+            first: Address(first),
+            last: Address(last),
+        });
+    }
+    let Range::From(top, bottom) = read_range(after(argument, b'/')) else {
         return Planned::Malformed;
     };
     Planned::Plan(EnginePlan::CodeAndTable {
@@ -53,22 +65,5 @@ fn with_table(first: u16, last: u16, table: &[u8]) -> Planned {
         last: Address(last),
         top: Address(top),
         bottom: Address(bottom),
-    })
-}
-
-pub fn read(argument: &[u8]) -> Planned {
-    if text_parts::same(argument, b"-") {
-        return Planned::Plan(EnginePlan::Unused);
-    }
-    let code = text_parts::part_at(argument, 0, b'/');
-    let Range::From(first, last) = read_range(code) else {
-        return Planned::Malformed;
-    };
-    if code.len() < argument.len() {
-        return with_table(first, last, after(argument, b'/'));
-    }
-    Planned::Plan(EnginePlan::Code {
-        first: Address(first),
-        last: Address(last),
     })
 }

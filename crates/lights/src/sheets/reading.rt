@@ -1,86 +1,86 @@
 // Sheets from files, read.
 use crate::cli::files;
 use crate::cli::files::File;
-use crate::cli::help;
+use crate::cli::files::Trouble;
 use crate::cli::names::Kind;
-use crate::cli::names::put_name;
-use crate::cli::output;
 use crate::cli::output::ANSWER;
 use crate::cli::output::Channel;
+use crate::cli::output::made;
+use crate::cli::output::tell_of;
 use crate::cli::status::Status;
-use crate::cli::texts::until;
-use crate::sentences;
+use crate::sentences::reader;
+use crate::sentences::say::Message;
+use crate::sentences::say::failed;
+use crate::sentences::say::malformed;
+use crate::sentences::say::right;
+use crate::sentences::templates;
+use crate::texts::pieces::until;
+use crate::texts::words::put_words;
 use asm::Assembled;
 use plan::Plan;
-use text_writing::put_bytes;
+use word::WORDS;
 
-// A program, or how asking for it ended.
 pub enum Program {
     Plan(Plan),
-    Ended(Status),
+    Missing,
 }
 
-fn refused(to: Channel, path: &[u8], kind: Kind, text: &[u8], read: Assembled) -> Status {
-    let mut out = [0u8; ANSWER];
-    let name = put_name(&mut out, 0, path, kind);
-    let n = sentences::reader::put_refusal(&mut out, name, text, read);
-    output::tell(to, &out, n, Status::Refused)
+// A program; or none, and what stands against it.
+pub struct Found {
+    pub program: Program,
+    pub message: Message,
 }
 
-fn assembled(to: Channel, path: &[u8], kind: Kind, text: &[u8], image: &mut [u16]) -> Program {
+pub fn missing(message: Message) -> Found {
+    Found {
+        program: Program::Missing,
+        message,
+    }
+}
+
+fn assembled(text: &[u8], image: &mut [u16]) -> Found {
     let read = assembler::assemble(text, image);
     let Assembled::Program(plan) = read else {
-        return Program::Ended(refused(to, path, kind, text, read));
+        return missing(reader::of_sheet(text, read));
     };
-    Program::Plan(plan)
+    Found {
+        program: Program::Plan(plan),
+        message: right(templates::DONE),
+    }
 }
 
-// A line about a file that can't be used.
-pub fn failed(to: Channel, path: &[u8], kind: Kind, why: &[u8]) -> Status {
-    let mut out = [0u8; ANSWER];
-    let name = put_name(&mut out, 0, path, kind);
-    let n = put_bytes(&mut out, name, why);
-    output::tell(to, &out, n, Status::Failed)
+// What is said of a file whose bytes can't be used.
+pub fn unused(trouble: Trouble) -> Message {
+    match trouble {
+        Trouble::Unreadable => failed(templates::UNREADABLE),
+        Trouble::TooLarge => failed(templates::TOO_LARGE),
+        Trouble::Taken => malformed(Channel::Error, templates::HAS_COMMANDS),
+    }
 }
 
-pub fn unreadable(to: Channel, path: &[u8], kind: Kind) -> Status {
-    failed(
-        to,
-        path,
-        kind,
-        b": unreadable: the file can't be opened or read\n",
-    )
-}
-
-pub fn too_large(to: Channel, path: &[u8], kind: Kind) -> Status {
-    failed(
-        to,
-        path,
-        kind,
-        b": unreadable: the file has more than 65535 bytes\n",
-    )
-}
-
-pub fn taken(to: Channel) -> Status {
-    help::malformed(to, b"standard input has the commands, so - is no file here")
-}
-
-// The program of a file's sheet; its words go into the lent image. What stands against it is told.
-pub fn read(to: Channel, path: &[u8], kind: Kind, image: &mut [u16]) -> Program {
+// The program of a file's sheet; its words go into the lent image.
+pub fn read(path: &[u8], kind: Kind, image: &mut [u16]) -> Found {
     let mut buf = io::large_buffer();
     match files::read(path, kind, &mut buf) {
-        File::Bytes(n) => assembled(to, path, kind, until(&buf, n), image),
-        File::Unreadable => Program::Ended(unreadable(to, path, kind)),
-        File::TooLarge => Program::Ended(too_large(to, path, kind)),
-        File::Taken => Program::Ended(taken(to)),
+        File::Bytes(n) => assembled(until(&buf, n), image),
+        File::Unused(trouble) => missing(unused(trouble)),
     }
+}
+
+// The words of an image, sixteen a line.
+pub fn write_words(words: &[u16]) -> Status {
+    let mut out = [0u8; ANSWER];
+    let n = put_words(&mut out, 0, words);
+    made(&out, n)
 }
 
 // image: the words of a file's sheet.
 pub fn image(path: &[u8], kind: Kind) -> Status {
-    let mut words = [0u16; 96];
-    match read(Channel::Error, path, kind, &mut words) {
-        Program::Plan(_) => output::words(&words),
-        Program::Ended(status) => status,
+    let mut words = [0u16; WORDS];
+    let found = read(path, kind, &mut words);
+    let program = found.program;
+    match program {
+        Program::Plan(_) => write_words(&words),
+        Program::Missing => tell_of(path, found.message),
     }
 }

@@ -4,18 +4,18 @@ use super::loading;
 use super::reading::Program;
 use crate::bench::state::put_chip;
 use crate::cli::names::Kind;
-use crate::cli::names::put_name;
-use crate::cli::output;
-use crate::cli::output::ANSWER;
-use crate::cli::output::Channel;
+use crate::cli::output::made;
+use crate::cli::output::tell_of;
 use crate::cli::status::Status;
-use crate::cli::texts::fill;
 use crate::pictures;
-use crate::sentences;
+use crate::sentences::calls;
+use crate::sentences::templates;
+use crate::sentences::templates::put_say;
 use machine::Chip;
 use machine::Outcome;
 use plan::Plan;
-use text_writing::put_bytes;
+use text_writing::put_byte;
+use word::WORDS;
 
 // What is wanted of the beats.
 pub enum View {
@@ -30,72 +30,46 @@ pub struct Span {
     pub beats: u32,
 }
 
-// A run's counts.
-pub fn put_counts(out: &mut [u8], at: usize, beats: u32, words: [u32; 3]) -> usize {
-    let template = b"beats=% words=%,%,%";
-    fill(
-        out,
-        at,
-        template,
-        [beats, words[0], words[1], words[2], 0, 0, 0, 0],
-    )
-}
-
-fn put_quiet(out: &mut [u8], at: usize, early: bool) -> usize {
-    if early {
-        return put_bytes(out, at, b" quiet\n");
-    }
-    put_bytes(out, at, b"\n")
-}
-
-fn ran(m: Chip, beats: u32) -> Status {
-    let mut out = [0u8; ANSWER];
+// What a run did, and the chip after it.
+fn put_run(out: &mut [u8], m: Chip, beats: u32) -> usize {
     let r = chip::run(m, beats);
     let words = r.words;
     let after = r.chip;
-    let counts = put_counts(&mut out, 0, r.beats, words);
-    let head = put_quiet(&mut out, counts, r.beats < beats);
-    let n = put_chip(&mut out, head, after);
-    output::tell(Channel::Output, &out, n, Status::Done)
+    let counts = calls::counts(r.beats, words, r.beats < beats);
+    let none = b"";
+    let end = put_say(out, 0, counts, none, none);
+    let head = put_byte(out, end, b'\n');
+    put_chip(out, head, after)
 }
 
-fn shown(m: Chip, span: Span) -> Status {
-    let mut out = io::large_buffer();
-    let n = pictures::show(&mut out, m, span.from, span.beats);
-    output::tell(Channel::Output, &out, n, Status::Done)
-}
-
-fn drawn(path: &[u8], m: Chip, span: Span) -> Status {
-    let mut out = io::large_buffer();
-    let n = pictures::svg(&mut out, path, m, span.from, span.beats);
-    output::tell(Channel::Output, &out, n, Status::Done)
-}
-
-fn too_many(path: &[u8], kind: Kind) -> Status {
-    let mut out = [0u8; ANSWER];
-    let name = put_name(&mut out, 0, path, kind);
-    let head = put_bytes(&mut out, name, b": ");
-    let n = sentences::calls::put_refusal(&mut out, head, Outcome::TooManyBeats);
-    output::tell(Channel::Error, &out, n, Status::Refused)
+fn put_view(out: &mut [u8], path: &[u8], m: Chip, span: Span, view: View) -> usize {
+    match view {
+        View::State => put_run(out, m, span.beats),
+        View::Picture => pictures::show(out, m, span.from, span.beats),
+        View::Svg => pictures::svg(out, path, m, span.from, span.beats),
+    }
 }
 
 // A chip with the program loaded and its used engines running free.
-fn viewed(path: &[u8], plan: Plan, image: &[u16], span: Span, view: View) -> Status {
+fn viewed(path: &[u8], plan: Plan, image: &[u16; WORDS], span: Span, view: View) -> Status {
+    let mut out = io::large_buffer();
     let m = loading::freed(loading::loaded(plan, image), plan);
-    match view {
-        View::State => ran(m, span.beats),
-        View::Picture => shown(m, span),
-        View::Svg => drawn(path, m, span),
-    }
+    let n = put_view(&mut out, path, m, span, view);
+    made(&out, n)
 }
 
 pub fn run(path: &[u8], kind: Kind, span: Span, view: View) -> Status {
-    let mut image = [0u16; 96];
+    let mut image = [0u16; WORDS];
     if span.from as u64 + span.beats as u64 > chip::MOST_BEATS as u64 {
-        return too_many(path, kind);
+        return tell_of(
+            path,
+            calls::of_outcome(templates::REFUSED_FILE, Outcome::TooManyBeats),
+        );
     }
-    match accepted(Channel::Error, path, kind, &mut image) {
+    let found = accepted(path, kind, &mut image);
+    let program = found.program;
+    match program {
         Program::Plan(plan) => viewed(path, plan, &image, span, view),
-        Program::Ended(status) => status,
+        Program::Missing => tell_of(path, found.message),
     }
 }

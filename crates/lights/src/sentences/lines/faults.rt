@@ -1,173 +1,169 @@
 // What is wrong with the pairs of a line, by the pairs of its form.
-use super::pieces::SPACE;
-use super::pieces::after;
-use super::pieces::key_of;
-use super::pieces::value_of;
-use super::tables::Pair;
-use super::tables::Place;
-use super::tables::is_name;
-use super::tables::pair_at;
-use super::tables::pairs_of;
-use super::tables::place_of;
-use super::tables::words_of;
-use grammar::ALSO_HIGH;
-use grammar::ALSO_LOW;
+use crate::sentences::say::Say;
+use crate::sentences::say::say_two;
+use crate::sentences::tables::NUMBER_KINDS;
+use crate::sentences::tables::Pair;
+use crate::sentences::tables::Ranges;
+use crate::sentences::tables::Stretch;
+use crate::sentences::tables::is_name;
+use crate::sentences::tables::pair_at;
+use crate::sentences::tables::place_of;
+use crate::sentences::tables::ranges_of;
+use crate::sentences::tables::words_of;
+use crate::sentences::templates;
+use crate::texts::pieces::SPACE;
+use crate::texts::pieces::after;
+use crate::texts::pieces::key_of;
+use crate::texts::pieces::value_of;
 use grammar::DECISION;
-use grammar::HIGH;
-use grammar::LOW;
-use grammar::NUMBERS;
 use text::Decimal;
 use text_numbers::read_decimal;
 use text_parts::part_at;
-ghost use Prim.Native.Nat.{_<_};
 
-pub(super) enum Fault {
-    // the keys of the form don't stand there, each in its place, and nothing else
-    Keys,
-    // the first pair whose value can't be read or, where there is none, isn't allowed; and its place
-    Value(Pair, usize),
-    NoFault,
+// The ranks of pairs. A line is refused for the first pair of the least rank, which is that of a pair with
+// another key.
+const KEY: u8 = 0;
+
+// The value can't be read.
+const MALFORMED: u8 = 1;
+
+const NOT_ALLOWED: u8 = 2;
+
+const ALLOWED: u8 = 3;
+
+// A word that is allowed, but not the first one of its kind.
+const OTHER_WORD: u8 = 4;
+
+// The kind of a yes or no. A line ends after one that isn't yes.
+const YES_OR_NO: u32 = DECISION as u32;
+
+// How a pair is judged: its rank, and the sentence about its value.
+struct Judged {
+    rank: u8,
+    template: usize,
 }
 
-enum Judged {
-    OtherKey,
-    Malformed,
-    Outside,
-    Allowed,
-}
+const OTHER_KEY: Judged = Judged {
+    rank: KEY,
+    template: templates::KEYS,
+};
 
-enum Found {
-    // the first pair that is judged so, and where its part of the line begins
-    Pair(Pair, usize),
-    // none; where the part after the last one begins, past the line's end where there is none
-    End(usize),
-}
+const NO_VALUE: Judged = Judged {
+    rank: MALFORMED,
+    template: templates::NO_VALUE,
+};
 
-fn wide(n: u16) -> u32 {
-    n as u32
-}
+const NO_NUMBER: Judged = Judged {
+    rank: MALFORMED,
+    template: templates::NO_NUMBER,
+};
 
-// Whether a number that is at most the greatest one of a kind is allowed.
-fn is_allowed(n: u32, kind: usize) -> bool
-    requires { ⌜ kind < 12 ⌝ }
-{
-    if n < wide(LOW[kind]) {
-        return false;
-    }
-    if n <= wide(HIGH[kind]) {
-        return true;
-    }
-    n >= wide(ALSO_LOW[kind])
-}
+const NO_WORD: Judged = Judged {
+    rank: MALFORMED,
+    template: templates::ALLOWED,
+};
 
-fn judge_number(v: &[u8], kind: usize) -> Judged
-    requires { ⌜ kind < 12 ⌝ }
-{
-    let d = read_decimal(v, wide(ALSO_HIGH[kind]));
+const OTHER_ENGINE: Judged = Judged {
+    rank: NOT_ALLOWED,
+    template: templates::ENGINE,
+};
+
+const OUTSIDE: Judged = Judged {
+    rank: NOT_ALLOWED,
+    template: templates::ALLOWED,
+};
+
+const FINE: Judged = Judged {
+    rank: ALLOWED,
+    template: templates::ALLOWED,
+};
+
+const NOT_FIRST: Judged = Judged {
+    rank: OTHER_WORD,
+    template: templates::ALLOWED,
+};
+
+// A number that is read is at most the greatest one of its kind.
+fn judge_number(v: &[u8], r: Ranges) -> Judged {
+    let d = read_decimal(v, r.also_high);
     if let Decimal::Malformed = d {
-        return Judged::Malformed;
+        return NO_NUMBER;
     }
-    let Decimal::Number(n) = d else {
-        return Judged::Outside;
-    };
-    if is_allowed(n, kind) {
-        return Judged::Allowed;
+    if let Decimal::Number(n) = d {
+        if n >= r.also_low {
+            return FINE;
+        }
+        if n >= r.low {
+            if n <= r.high {
+                return FINE;
+            }
+        }
     }
-    Judged::Outside
+    if r.low == r.also_high {
+        return OTHER_ENGINE;
+    }
+    OUTSIDE
 }
 
-fn judge_word(v: &[u8], kind: usize) -> Judged {
-    if v.len() == 0 {
-        return Judged::Malformed;
-    }
+fn judge_word(v: &[u8], words: Stretch) -> Judged {
     if key_of(v).len() < v.len() {
-        return Judged::Malformed;
+        return NO_WORD;
     }
-    if let Place::At(_) = place_of(v, words_of(kind)) {
-        return Judged::Allowed;
+    let place = place_of(v, words.from, words.to);
+    if place == words.to {
+        return OUTSIDE;
     }
-    Judged::Outside
+    if place == words.from {
+        return FINE;
+    }
+    NOT_FIRST
 }
 
 fn judge(part: &[u8], pair: Pair) -> Judged {
-    let kind = pair.kind;
     if !is_name(key_of(part), pair.key) {
-        return Judged::OtherKey;
+        return OTHER_KEY;
     }
-    if kind < NUMBERS {
-        return judge_number(value_of(part), kind);
+    let v = value_of(part);
+    if v.len() == 0 {
+        return NO_VALUE;
     }
-    judge_word(value_of(part), kind)
+    if pair.kind < NUMBER_KINDS {
+        return judge_number(v, ranges_of(pair.kind));
+    }
+    judge_word(v, words_of(pair.kind))
 }
 
-fn rank(judged: Judged) -> u8 {
-    match judged {
-        Judged::OtherKey => 0,
-        Judged::Malformed => 1,
-        Judged::Outside => 2,
-        Judged::Allowed => 3,
-    }
-}
-
-// Whether a line ends after this pair: a yes or no that isn't its first word, yes.
-fn is_last(part: &[u8], pair: Pair) -> bool {
-    if pair.kind != DECISION as usize {
-        return false;
-    }
-    !is_name(value_of(part), words_of(pair.kind).from)
-}
-
-// Where the part after a pair begins. After a yes or no that is neither nothing more is judged: it is
-// past the end.
-fn next_place(line: &[u8], at: usize, pair: Pair, judged: u8) -> usize {
-    if pair.kind == DECISION as usize {
-        if judged == rank(Judged::Outside) {
-            return line.len() + 1;
-        }
-    }
-    after(line, at, SPACE)
-}
-
-// The first pair of a form that is judged so, in the parts of the line that begin at `from`.
-fn find(line: &[u8], from: usize, form: usize, sought: Judged) -> Found {
-    let pairs = pairs_of(form);
-    let end = pairs.to;
-    let wanted = rank(sought);
-    let mut i = pairs.from;
+// What is wrong with the parts of the line that begin at `from`: `keys` where the keys of the form don't
+// stand there, each in its place, and nothing else; `none` where nothing is wrong. After a yes or no that
+// is neither nothing more is judged.
+pub(super) fn fault_of(line: &[u8], from: usize, pairs: Stretch, keys: Say, none: Say) -> Say {
+    let mut least = ALLOWED;
+    let mut say = none;
     let mut at = from;
-    while i < end {
+    let mut i = pairs.from;
+    while i < pairs.to {
         let pair = pair_at(i);
-        let part = part_at(line, at, SPACE);
-        let judged = rank(judge(part, pair));
-        if judged == wanted {
-            return Found::Pair(pair, at);
+        let judged = judge(part_at(line, at, SPACE), pair);
+        if judged.rank == KEY {
+            return keys;
         }
-        at = next_place(line, at, pair, judged);
-        if is_last(part, pair) {
-            return Found::End(at);
+        if judged.rank < least {
+            least = judged.rank;
+            say = say_two(judged.template, pair.key, pair.kind);
         }
+        at = after(line, at, SPACE);
         i += 1;
+        if pair.kind == YES_OR_NO {
+            if judged.rank == NOT_ALLOWED {
+                return say;
+            }
+            if judged.rank != ALLOWED {
+                i = pairs.to;
+            }
+        }
     }
-    Found::End(at)
-}
-
-fn keys_stand(line: &[u8], from: usize, form: usize) -> bool {
-    match find(line, from, form, Judged::OtherKey) {
-        Found::Pair(_, _) => false,
-        Found::End(at) => at > line.len(),
+    if at <= line.len() {
+        return keys;
     }
-}
-
-// What is wrong with the parts of the line that begin at `from`.
-pub(super) fn fault_of(line: &[u8], from: usize, form: usize) -> Fault {
-    if !keys_stand(line, from, form) {
-        return Fault::Keys;
-    }
-    if let Found::Pair(pair, at) = find(line, from, form, Judged::Malformed) {
-        return Fault::Value(pair, at);
-    }
-    if let Found::Pair(pair, at) = find(line, from, form, Judged::Outside) {
-        return Fault::Value(pair, at);
-    }
-    Fault::NoFault
+    say
 }

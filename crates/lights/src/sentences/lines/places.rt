@@ -1,44 +1,43 @@
 // Lines that belong elsewhere: the plan decides which form a line has.
-use super::pieces::begins_with;
-use super::texts;
-use super::texts::Say;
-use super::texts::place_say;
+use crate::sentences::say::Say;
+use crate::sentences::say::say_two;
+use crate::sentences::templates;
+use crate::texts::pieces::key_of;
+use crate::texts::pieces::place_of;
 use grammar::Form;
 
-// Whether a line begins as the line of a word.
-fn is_words_line(line: &[u8]) -> bool {
-    if begins_with(line, b"op") {
-        return true;
+// The place of a form's key among those of the words' lines; past the last for the plan lines.
+fn place(form: Form) -> usize {
+    match form {
+        Form::Op => 0,
+        Form::Row => 1,
+        Form::Spare => 2,
+        Form::Engine1 | Form::Engine2 | Form::Engine3 => 3,
     }
-    if begins_with(line, b"row") {
-        return true;
-    }
-    begins_with(line, b"spare")
 }
 
 // Whether a line begins as the line of a word, but not as one of this form.
-pub(super) fn is_elsewhere(line: &[u8], form: Form) -> bool {
-    if !is_words_line(line) {
+pub fn is_elsewhere(line: &[u8], form: Form) -> bool {
+    let key = key_of(line);
+    if key.len() == line.len() {
         return false;
     }
-    match form {
-        Form::Op => !begins_with(line, b"op"),
-        Form::Engine1 => true,
-        Form::Engine2 => true,
-        Form::Engine3 => true,
-        Form::Row => !begins_with(line, b"row"),
-        Form::Spare => !begins_with(line, b"spare"),
+    let begins = place_of(b"op row spare", key);
+    if begins == 3 {
+        return false;
     }
+    begins != place(form)
 }
 
-// What belongs where a line stands.
-pub(super) fn of_place(form: Form, engine: u16, address: u16) -> Say {
+// What belongs where a line stands: at the word with this address, which is code or a row of this engine
+// or neither, by the form; or at an engine's plan line.
+pub fn of_place(form: Form, engine: u32, address: u32) -> Say {
     match form {
-        Form::Op => place_say(texts::CODE_PLACE, engine, address),
-        Form::Engine1 => place_say(texts::PLAN, 1, 0),
-        Form::Engine2 => place_say(texts::PLAN, 2, 0),
-        Form::Engine3 => place_say(texts::PLAN, 3, 0),
-        Form::Row => place_say(texts::ROW_PLACE, engine, address),
-        Form::Spare => place_say(texts::SPARE_PLACE, engine, address),
+        Form::Op => say_two(templates::CODE_PLACE, address, engine),
+        Form::Engine1 => say_two(templates::PLAN, 1, 1),
+        Form::Engine2 => say_two(templates::PLAN, 2, 2),
+        Form::Engine3 => say_two(templates::PLAN, 3, 3),
+        Form::Row => say_two(templates::ROW_PLACE, address, engine),
+        Form::Spare => say_two(templates::SPARE_PLACE, address, 0),
     }
 }

@@ -1,6 +1,7 @@
 -- `lights::bench::bursts::read_bytes` is safe and ends.
 use Prim.Native.Nat.{_+_, _-_}
 use mathlib.Core.Path.{_≡_}
+use native.Mathlib.Omega.{arith}
 use borrow.Author.Needs.{needs}
 use lib.ListN.{length}
 use Rattle.lights.proofs.bench.bursts.read_bytes.Statement.{statement}
@@ -20,9 +21,6 @@ read-bytes-spec =
     μ-loop
     (λ c. search needs)
     (λ c κs. search needs)
-    (λ c. search needs)
-    (λ c. search needs)
-    (λ c. search needs)
     (λ c κs. search needs)
     (λ c. search needs)
     (λ c κs. search needs)
@@ -32,8 +30,8 @@ read-bytes-spec =
     (λ c. search needs)
     (λ c. search needs)
     (λ c. search needs)
-    (λ c. search needs)
-    (λ c. search needs)
+    (λ c κs. search needs)
+    (λ c. omega (arith, c .after .ensures (omega arith)))
     (λ c. search needs)
     (λ c. search needs)
     (λ c. search needs))

@@ -7,10 +7,10 @@ use Rattle.lights.proofs.bench.state.put_outputs.Statement.{statement}
 use Rattle.lights.proofs.bench.state.put_outputs.Tie as tie
 
 abbrev Inv-loop : tie.InvT-loop
-Inv-loop out₀ at outputs next₀ k₀ t8 out next k = length out ≡ length out₀
+Inv-loop out₀ at outputs next₀ template₀ k₀ out next template k = length out ≡ length out₀
 
 abbrev μ-loop : tie.MeasureT-loop
-μ-loop out₀ at outputs next₀ k₀ t8 out next k = 10 - k
+μ-loop out₀ at outputs next₀ template₀ k₀ out next template k = 10 - k
 
 pub put-outputs-spec : {M : Type 1} → statement M
 put-outputs-spec =
@@ -20,13 +20,6 @@ put-outputs-spec =
     μ-loop
     (λ c. search needs)
     (λ c. search needs)
-    (λ c κs. search needs)
-    (λ c κs. search needs)
-    (λ c κs. search needs)
-    (λ c. search needs)
-    (λ c. search needs)
-    (λ c. search needs)
-    (λ c κs. search needs)
     (λ c κs. search needs)
     (λ c κs. search needs)
     (λ c. search needs)

@@ -1,4 +1,5 @@
 -- `lights::cli::commands::check_all` is safe and ends.
+use Prim.Native.Nat.{_-_}
 use mathlib.Core.Path.{_≡_}
 use borrow.Author.Needs.{needs}
 use lib.ListN.{length}
@@ -6,10 +7,10 @@ use Rattle.lights.proofs.cli.commands.check_all.Statement.{statement}
 use Rattle.lights.proofs.cli.commands.check_all.Tie as tie
 
 abbrev Inv-loop : tie.InvT-loop
-Inv-loop line count bytes₀ status₀ arguments₀ read₀ left₀ bytes status arguments read left = 4096 ≡ length bytes
+Inv-loop source line count bytes₀ status₀ read₀ k₀ bytes status read k = 4096 ≡ length bytes
 
 abbrev μ-loop : tie.MeasureT-loop
-μ-loop line count bytes₀ status₀ arguments₀ read₀ left₀ bytes status arguments read left = left
+μ-loop source line count bytes₀ status₀ read₀ k₀ bytes status read k = count - k
 
 pub check-all-spec : {M : Type 1} → statement M
 check-all-spec =

@@ -1,4 +1,5 @@
 -- `lights::cli::commands::join` is safe and ends.
+use Prim.Native.Nat.{_-_}
 use mathlib.Core.Path.{_≡_}
 use borrow.Author.Needs.{needs}
 use lib.ListN.{length}
@@ -6,10 +7,10 @@ use Rattle.lights.proofs.cli.commands.join.Statement.{statement}
 use Rattle.lights.proofs.cli.commands.join.Tie as tie
 
 abbrev Inv-loop : tie.InvT-loop
-Inv-loop out₀ count arguments₀ at₀ left₀ out arguments at left = length out ≡ length out₀
+Inv-loop out₀ count bytes₀ at₀ k₀ t7 out bytes at k = (length out ≡ length out₀) × (65536 ≡ length bytes)
 
 abbrev μ-loop : tie.MeasureT-loop
-μ-loop out₀ count arguments₀ at₀ left₀ out arguments at left = left
+μ-loop out₀ count bytes₀ at₀ k₀ t7 out bytes at k = count - k
 
 pub join-spec : {M : Type 1} → statement M
 join-spec =
@@ -17,7 +18,14 @@ join-spec =
     (tie.spec
     Inv-loop
     μ-loop
+    (λ c κs. search needs)
     (λ c. search needs)
+    (λ c. search needs)
+    (λ c. search needs)
+    (λ c κs. search needs)
+    (λ c κs. search needs)
+    (λ c. search needs)
+    (λ c κs. search needs)
     (λ c κs. search needs)
     (λ c. search needs)
     (λ c. search needs)

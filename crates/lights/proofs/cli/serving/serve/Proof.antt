@@ -7,10 +7,10 @@ use Rattle.lights.proofs.cli.serving.serve.Statement.{statement}
 use Rattle.lights.proofs.cli.serving.serve.Tie as tie
 
 abbrev Inv-loop : tie.InvT-loop
-Inv-loop buf₀ among t₀ at₀ left₀ buf t at left = (at .at ≤ at .stop) × (at .stop ≤ at .end) × (at .end ≤ length buf) × (length buf ≡ length buf₀)
+Inv-loop buf₀ outer t₀ at₀ left₀ buf t at left = (at .at ≤ at .stop) × (at .stop ≤ at .end) × (at .end ≤ length buf) × (length buf ≡ length buf₀)
 
 abbrev μ-loop : tie.MeasureT-loop
-μ-loop buf₀ among t₀ at₀ left₀ buf t at left = left
+μ-loop buf₀ outer t₀ at₀ left₀ buf t at left = left
 
 pub serve-spec : {M : Type 1} → statement M
 serve-spec =
@@ -19,8 +19,8 @@ serve-spec =
     Inv-loop
     μ-loop
     (λ c κs. search needs)
-    (λ c κs. search needs)
     (λ c. search needs)
+    (λ c κs. search needs)
     (λ c κs. search needs)
     (λ c. search needs)
     (λ c. search needs)

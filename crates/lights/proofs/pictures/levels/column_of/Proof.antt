@@ -1,5 +1,5 @@
 -- `lights::pictures::levels::column_of` meets its contract.
-use Prim.Native.Nat.{ℕ, zero, suc, _*_, _-_, _≤_}
+use Prim.Native.Nat.{ℕ, zero, suc, _+_, _*_, _-_, _≤_}
 use native.Mathlib.Omega.{arith}
 use borrow.Author.Needs.{needs}
 use lib.ListN.{getD, replicate}
@@ -12,10 +12,10 @@ zeros (suc n) zero = omega arith
 zeros (suc n) (suc k) = zeros n k
 
 abbrev Inv-loop : tie.InvT-loop
-Inv-loop width c₀ c = (c .beats ≤ width) × ((k : ℕ) → getD (c .sums) k 0 ≤ 255 * c .beats)
+Inv-loop first end after₀ sums₀ beats₀ after sums beats = (beats ≤ 4398046511104) × ((k : ℕ) → getD sums k 0 ≤ 255 * beats)
 
 abbrev μ-loop : tie.MeasureT-loop
-μ-loop width c₀ c = width - c .beats
+μ-loop first end after₀ sums₀ beats₀ after sums beats = end - (first + beats)
 
 pub column-of-spec : {M : Type 1} → statement M
 column-of-spec =
@@ -24,7 +24,10 @@ column-of-spec =
     Inv-loop
     μ-loop
     (λ c. (omega arith, zeros 10))
-    (λ c κs. (omega arith, c .before .before .loop .inv .1))
+    (λ c. search needs)
+    (λ c κs. tt)
+    (λ c κs. λ k. omega (arith, c .before .before .before .before .loop .inv .1 k))
+    (λ c. search needs)
     (λ c. omega arith)
-    (λ c. (omega arith, λ k. omega (arith, c .with-beat .ensures .1 k)))
-    (λ c. λ k. omega (arith, c .before .before .loop .inv .1 k)))
+    (λ c. (omega arith, λ k. omega (arith, c .added .ensures k, c .before .before .before .before .before .loop .inv .1 k)))
+    (λ c. (omega arith, c .before .loop .inv .1)))

@@ -7,10 +7,10 @@ use Rattle.lights.proofs.sheets.loading.bytes_of.Statement.{statement}
 use Rattle.lights.proofs.sheets.loading.bytes_of.Tie as tie
 
 abbrev Inv-loop : tie.InvT-loop
-Inv-loop image page bytes₀ k₀ bytes k = 32 ≡ length bytes
+Inv-loop image page bytes₀ k₀ bytes k = length bytes ≡ 32
 
 abbrev μ-loop : tie.MeasureT-loop
-μ-loop image page bytes₀ k₀ bytes k = 32 - k
+μ-loop image page bytes₀ k₀ bytes k = 16 - k
 
 pub bytes-of-spec : {M : Type 1} → statement M
 bytes-of-spec =
@@ -21,7 +21,14 @@ bytes-of-spec =
     (λ c. search needs)
     (λ c. search needs)
     (λ c. search needs)
+    (λ c. search needs)
+    (λ c. search needs)
     (λ c κs. search needs)
+    (λ c. search needs)
+    (λ c. search needs)
+    (λ c κs. search needs)
+    (λ c. search needs)
+    (λ c. search needs)
     (λ c. search needs)
     (λ c. search needs)
     (λ c. search needs)

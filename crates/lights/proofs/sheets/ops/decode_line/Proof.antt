@@ -1,5 +1,6 @@
 -- `lights::sheets::ops::decode_line` is safe and ends.
 use Prim.Native.Nat.{_+_, _-_}
+use native.Mathlib.Omega.{arith}
 use borrow.Author.Needs.{needs}
 use lib.ListN.{length}
 use Rattle.lights.proofs.sheets.ops.decode_line.Statement.{statement}
@@ -19,14 +20,11 @@ decode-line-spec =
     μ-loop
     (λ c. search needs)
     (λ c κs. search needs)
-    (λ c. search needs)
-    (λ c. search needs)
-    (λ c. search needs)
     (λ c κs. search needs)
     (λ c κs. search needs)
     (λ c κs. search needs)
     (λ c. search needs)
-    (λ c. search needs)
-    (λ c. search needs)
+    (λ c κs. search needs)
+    (λ c. omega (arith, c .after .ensures (omega arith)))
     (λ c. search needs)
     (λ c. search needs))

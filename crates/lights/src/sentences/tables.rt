@@ -1,0 +1,130 @@
+// The tables of `grammar`, asked at any place: a number that isn't there is 0, a name is empty, and a form
+// has no pairs.
+use crate::texts::pieces::from;
+use crate::texts::pieces::until;
+use grammar::ALSO_HIGH;
+use grammar::ALSO_LOW;
+use grammar::FORM_AT;
+use grammar::HIGH;
+use grammar::LOW;
+use grammar::NAME_AT;
+use grammar::NAMES;
+use grammar::NUMBERS;
+use grammar::PAIR_KEY;
+use grammar::PAIR_KIND;
+use grammar::WORD_COUNT;
+use grammar::WORD_FIRST;
+use text_parts::same;
+use text_writing::put_bytes;
+ghost use Prim.Native.Nat.{_≤_, _<_};
+
+// The ops come first among the names.
+pub const OPS: u32 = WORD_FIRST[0] as u32;
+
+// The kinds below this one are of numbers.
+pub const NUMBER_KINDS: u32 = NUMBERS as u32;
+
+// The entries of a table from one place up to another.
+pub struct Stretch {
+    pub from: u32,
+    pub to: u32,
+}
+
+// A pair of a form: the key's place among the names, and the kind of the value.
+pub struct Pair {
+    pub key: u32,
+    pub kind: u32,
+}
+
+// The numbers of a kind: from `low` to `high` or from `also_low` to `also_high`. A kind with one range
+// has it twice.
+pub struct Ranges {
+    pub low: u32,
+    pub high: u32,
+    pub also_low: u32,
+    pub also_high: u32,
+}
+
+fn small_at(table: &[u8], place: usize) -> u32
+    ensures { λ r. ⌜ r < 256 ⌝ }
+{
+    if place < table.len() {
+        return table[place] as u32;
+    }
+    0
+}
+
+fn number_at(table: &[u16], place: usize) -> u32 {
+    if place < table.len() {
+        return table[place] as u32;
+    }
+    0
+}
+
+// The pairs of a form. The forms of the ops come first, in the order of their names, then those of the
+// plan lines.
+pub(super) fn pairs_of(form: u32) -> Stretch {
+    let at = form as usize;
+    Stretch {
+        from: small_at(&FORM_AT, at),
+        to: small_at(&FORM_AT, at + 1),
+    }
+}
+
+pub(super) fn pair_at(place: u32) -> Pair {
+    let at = place as usize;
+    Pair {
+        key: small_at(&PAIR_KEY, at),
+        kind: small_at(&PAIR_KIND, at),
+    }
+}
+
+pub(super) fn ranges_of(kind: u32) -> Ranges {
+    let at = kind as usize;
+    Ranges {
+        low: number_at(&LOW, at),
+        high: number_at(&HIGH, at),
+        also_low: number_at(&ALSO_LOW, at),
+        also_high: number_at(&ALSO_HIGH, at),
+    }
+}
+
+// The words of a kind among the names.
+pub(super) fn words_of(kind: u32) -> Stretch
+    requires { ⌜ 12 ≤ kind ⌝ }
+{
+    let at = (kind - NUMBER_KINDS) as usize;
+    let from = small_at(&WORD_FIRST, at);
+    Stretch {
+        from,
+        to: from + small_at(&WORD_COUNT, at),
+    }
+}
+
+// The bytes of a name among those of all names.
+fn bytes_of(names: &[u8], name: u32) -> &[u8] {
+    let at = name as usize;
+    let start = number_at(&NAME_AT, at);
+    let end = number_at(&NAME_AT, at + 1);
+    from(until(names, end as usize), start as usize)
+}
+
+pub(super) fn put_name(out: &mut [u8], at: usize, name: u32) -> usize {
+    put_bytes(out, at, bytes_of(&NAMES, name))
+}
+
+pub(super) fn is_name(v: &[u8], name: u32) -> bool {
+    same(v, bytes_of(&NAMES, name))
+}
+
+// The name, from one up to another, that a text is; the end for another text.
+pub(super) fn place_of(v: &[u8], from: u32, end: u32) -> u32 {
+    let mut i = from;
+    while i < end {
+        if is_name(v, i) {
+            return i;
+        }
+        i += 1;
+    }
+    end
+}
