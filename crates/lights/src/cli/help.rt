@@ -85,11 +85,8 @@ const MEANING: usize = 1;
 
 const EXAMPLE: usize = 2;
 
-// A line of a command. In the table each has three: how it is written, what it prints, and an example.
-fn put_line(out: &mut [u8], at: usize, place: usize, which: usize) -> usize
-    requires { ⌜ (place < 12) × (which < 3) ⌝ }
-{
-    let table = b"lights check SHEET..\n\
+// Three lines for each command: how it is written, what it prints, and an example.
+const LINES: [u8; 1651] = *b"lights check SHEET..\n\
 \x20   for each file: accepted, or its refusal, with its place and what to correct\n\
 \x20   example: lights check sheets/pull-me.sheet sheets/draining.sheet\n\
 lights image SHEET\n\
@@ -125,7 +122,12 @@ lights help [COMMAND]\n\
 lights --version\n\
 \x20   the version, and the chips that it knows\n\
 \x20   example: lights --version";
-    let end = put_bytes(out, at, nth(table, place * 3 + which, LINE_FEED));
+
+// A line of a command.
+fn put_line(out: &mut [u8], at: usize, place: usize, which: usize) -> usize
+    requires { ⌜ (place < 12) × (which < 3) ⌝ }
+{
+    let end = put_bytes(out, at, nth(&LINES, place * 3 + which, LINE_FEED));
     put_byte(out, end, LINE_FEED)
 }
 

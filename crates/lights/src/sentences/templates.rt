@@ -198,9 +198,8 @@ pub const ROW_PLACE: usize = 89;
 
 pub const SPARE_PLACE: usize = 90;
 
-// A template of the table, filled in. The table is in the order of the places above.
-pub fn put_say(out: &mut [u8], at: usize, say: Say, quote: &[u8], name: &[u8]) -> usize {
-    let table = b"\0\
+// In the order of the places above.
+const TABLE: [u8; 4070] = *b"\0\
 ^: \0\
 malformed: \0\
 refused %: \0\
@@ -300,6 +299,16 @@ spare= is 0 to %\0\
 word % is code of engine %: an op line belongs here\0\
 word % is a row of engine %'s table: row=N belongs here\0\
 word % is outside every engine's code and table, so this line has to be spare=N";
+
+// A template, filled in.
+pub fn put_say(out: &mut [u8], at: usize, say: Say, quote: &[u8], name: &[u8]) -> usize {
     let numbers = say.numbers;
-    fill(out, at, nth(table, say.template, NUL), numbers, quote, name)
+    fill(
+        out,
+        at,
+        nth(&TABLE, say.template, NUL),
+        numbers,
+        quote,
+        name,
+    )
 }
