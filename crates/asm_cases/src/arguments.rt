@@ -3,7 +3,7 @@
 const SPACE: u8 = 32;
 
 pub fn first(parts: &[u8]) -> &[u8] {
-    text_parts::part_at(parts, 0, SPACE)
+    text_bytes::part_at(parts, 0, SPACE)
 }
 
 // What stands after the first part and its space.

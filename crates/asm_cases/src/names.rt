@@ -57,8 +57,8 @@ fn place_of(names: &[u8], name: &[u8]) -> usize {
     let mut place = 0;
     let mut at = 0;
     while at < names.len() {
-        let other = text_parts::part_at(names, at, SPACE);
-        if text_parts::same(other, name) {
+        let other = text_bytes::part_at(names, at, SPACE);
+        if text_bytes::same(other, name) {
             return place;
         }
         at = at + other.len() + 1;

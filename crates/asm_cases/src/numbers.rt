@@ -7,7 +7,7 @@ ghost use Prim.Native.Nat.{_≤_};
 fn number(part: &[u8], most: u32) -> u32
     ensures { λ r. ⌜ r ≤ most ⌝ }
 {
-    let Decimal::Number(n) = text_numbers::read_decimal(part, most) else {
+    let Decimal::Number(n) = text_bytes::read_decimal(part, most) else {
         print::text(b" no such number");
         return 0;
     };

@@ -30,7 +30,7 @@ fn called(code: u16, out: &mut [u8], room: usize) -> WordWritten {
     if room > out.len() {
         return WordWritten::TooShort;
     }
-    word_disassembler::disassemble_word(code, &mut out[..room])
+    op_codec::disassemble_word(code, &mut out[..room])
 }
 
 // Whether a code is written as the line that it was read from.
@@ -38,13 +38,13 @@ fn print_again(code: u16, line: &[u8]) {
     let mut out = [FILL_BYTE; 100];
     let written = called(code, &mut out, 100);
     print::text(b" written=");
-    print::same(text_parts::same(up_to(&out, length_of(written)), line));
+    print::same(text_bytes::same(up_to(&out, length_of(written)), line));
 }
 
 pub fn read(line: &[u8]) {
-    let read = op_reader::assemble_line(line);
+    let read = op_codec::assemble_line(line);
     print::text(b": number=");
-    print::decimal(sheet_answers::op_line_number_of(read));
+    print::decimal(refusals::op_line_number_of(read));
     let WordLine::Code(code) = read else {
         return;
     };

@@ -32,10 +32,10 @@ fn table(parts: &[u8]) -> EnginePlan {
 // `code` and two addresses, `table` and four; anything else is an unused engine.
 fn engine_plan(parts: &[u8]) -> EnginePlan {
     let kind = first(parts);
-    if text_parts::same(kind, b"code") {
+    if text_bytes::same(kind, b"code") {
         return code(rest(parts));
     }
-    if text_parts::same(kind, b"table") {
+    if text_bytes::same(kind, b"table") {
         return table(rest(parts));
     }
     EnginePlan::Unused

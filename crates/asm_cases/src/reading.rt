@@ -8,7 +8,7 @@ use super::state::with_program;
 use asm::Assembled;
 
 fn print_read(read: Assembled) {
-    let a = sheet_answers::line_report_of(read);
+    let a = refusals::line_report_of(read);
     print::text(b": number=");
     print::decimal(a.number);
     print::text(b" line=");

@@ -4,7 +4,7 @@ use super::print;
 use asm::Disassembled;
 
 pub fn print_written(written: Disassembled) {
-    let a = sheet_answers::written_report_of(written);
+    let a = refusals::written_report_of(written);
     print::text(b": number=");
     print::decimal(a.number);
     print::text(b" engine=");

@@ -50,8 +50,8 @@ fn changed(s: State, bytes: &mut [u8], command: Command, parts: &[u8]) -> State 
             s,
             sheet::lines(bytes, end, numbers::size(first(parts), 200), rest(parts)),
         ),
-        Command::Part => with_sheet(s, text_writing::put_bytes(bytes, end, parts)),
-        Command::Byte => with_sheet(s, text_writing::put_byte(bytes, end, numbers::byte(parts))),
+        Command::Part => with_sheet(s, text_bytes::put_bytes(bytes, end, parts)),
+        Command::Byte => with_sheet(s, text_bytes::put_byte(bytes, end, numbers::byte(parts))),
         Command::Words => with_words(s, numbers::size(parts, 100)),
         Command::Image => with_length(s, numbers::size(parts, 100)),
         Command::Room => with_room(s, numbers::size(parts, 8192)),
@@ -87,7 +87,7 @@ pub fn play(script: &[u8], bytes: &mut [u8]) {
     let mut s = begin();
     let mut at = 0;
     while at < script.len() {
-        let line = text_parts::part_at(script, at, LINE_FEED);
+        let line = text_bytes::part_at(script, at, LINE_FEED);
         s = played(s, bytes, line);
         at = at + line.len() + 1;
     }

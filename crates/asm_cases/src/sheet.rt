@@ -3,8 +3,8 @@
 const LINE_FEED: u8 = 10;
 
 pub fn line(sheet: &mut [u8], at: usize, bytes: &[u8]) -> usize {
-    let end = text_writing::put_bytes(sheet, at, bytes);
-    text_writing::put_byte(sheet, end, LINE_FEED)
+    let end = text_bytes::put_bytes(sheet, at, bytes);
+    text_bytes::put_byte(sheet, end, LINE_FEED)
 }
 
 // The same line, so many times.

@@ -40,7 +40,7 @@ pub fn write(s: State, sheet: &[u8]) {
     print::kept(bytes_kept(&out, end));
     if end > 0 {
         print::text(b" sheet=");
-        print::same(text_parts::same(up_to(&out, end), up_to(sheet, s.sheet)));
+        print::same(text_bytes::same(up_to(&out, end), up_to(sheet, s.sheet)));
     }
 }
 

@@ -30,7 +30,7 @@ const LINE_FEED: u8 = 10;
 fn judged(plan: Plan) -> Assembled
     ensures { λ r. ⌜ ((ws : List ℕ) → readingOf r ws ≡ ranged (reportOf (checkRangesOf LP5523 plan) .number) plan ws) ⌝ }
 {
-    match plan_ranges::check_ranges(plan) {
+    match checker::check_ranges(plan) {
         Verdict::OutOfOrder { engine: _ } => Assembled::OutOfOrder,
         Verdict::CodeMeetsTable { engine: _ } => Assembled::CodeMeetsTable,
         _ => Assembled::Program(plan),
@@ -45,7 +45,7 @@ fn read_words(text: &[u8], from: usize, plan: Plan, words: &mut [u16]) -> Assemb
     let mut at = from;
     let mut k = 0;
     while k < WORDS {
-        let line = text_parts::part_at(text, at, LINE_FEED);
+        let line = text_bytes::part_at(text, at, LINE_FEED);
         let end = at + line.len();
         let number = k as u16 + 4;
         if end >= text.len() {

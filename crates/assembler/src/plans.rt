@@ -47,7 +47,7 @@ pub(super) fn read_plan(text: &[u8], at: usize, form: Form, number: u16) -> Plan
     ensures { λ r. ⌜ ((fs : List Form) (qs : List EnginePlan) (ws : List ℕ) → thenPlans r (now (text .entry)) number fs qs ws ≡ readPlans LP5523 (form ∷ fs) number qs (linesFrom at (now (text .entry)))) ⌝ }
     ensures { λ r. ⌜ Within r (now (text .entry)) ⌝ }
 {
-    let line = text_parts::part_at(text, at, LINE_FEED);
+    let line = text_bytes::part_at(text, at, LINE_FEED);
     let end = at + line.len();
     if end >= text.len() {
         return PlanLine::Refused(unended(line, number));

@@ -17,7 +17,7 @@ ghost use Rattle.assembler.specs.Walks.{thenWord};
 fn op_word(line: &[u8], number: u16) -> WordRead
     ensures { λ r. ⌜ ((f : ℕ → Sheet) (ws : List ℕ) → thenWord r f ws ≡ withWord (assembleLineOf LP5523 (now (line .entry))) number f) ⌝ }
 {
-    match op_reader::assemble_line(line) {
+    match op_codec::assemble_line(line) {
         WordLine::Code(w) => WordRead::Word(w),
         WordLine::Malformed => WordRead::Refused(Assembled::Malformed { line: number }),
         WordLine::UnknownOp => WordRead::Refused(Assembled::UnknownOp { line: number }),

@@ -12,7 +12,7 @@ use Rattle.machine.specs.declared.Chip.{Chip}
 use Rattle.machine.specs.Parts.{bit, withPending, withEngines}
 use Rattle.machine.specs.Triggers.{receives}
 use Rattle.beats.specs.declared.Cores.{Cores}
-use Rattle.cores.specs.Core.{engineOf}
+use Rattle.engine_core.specs.Core.{engineOf}
 use Rattle.beats.specs.Parts.{outputOf, levelOf, fixedOf, lentOf, chipOf}
 
 pub three : {a b c a′ b′ c′ : Engine} (m : Chip) → a ≡ a′ → b ≡ b′ → c ≡ c′ → withEngines (a ∷ b ∷ c ∷ []) m ≡ withEngines (a′ ∷ b′ ∷ c′ ∷ []) m

@@ -22,7 +22,7 @@ use Rattle.machine.specs.Turn.{acts, beatOf, applied, turn}
 use Rattle.machine.specs.Tick.{turns}
 use Rattle.machine.proofs.Safety.{turn-acts, turn-rests}
 use Rattle.plan.proofs.Laws.{by-test, and-left, and-right}
-use Rattle.cores.specs.Core.{engineOf}
+use Rattle.engine_core.specs.Core.{engineOf}
 use Rattle.beats.specs.declared.Cores.{Cores}
 use Rattle.beats.specs.Parts.{Fixed, Lent, chipOf}
 use Rattle.beats.specs.Idle.{leftOf, waitLeft, idles, allIdle, idled, allIdled}

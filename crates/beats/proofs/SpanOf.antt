@@ -24,7 +24,7 @@ use Rattle.machine.proofs.Run.{run-goes}
 use Rattle.machine.proofs.Theorems.{stopped-beat}
 use Rattle.machine.proofs.Safety.{turn-rests}
 use Rattle.plan.proofs.Laws.{by-test}
-use Rattle.cores.proofs.Three.{three}
+use Rattle.engine_core.proofs.Three.{three}
 use Rattle.beats.specs.declared.CoresTicked.{CoresTicked}
 use Rattle.beats.specs.declared.CoresRan.{CoresRan}
 use Rattle.beats.specs.declared.Span.{Span}

@@ -12,7 +12,7 @@ use Rattle.machine.specs.declared.Turned.{Turned}
 use Rattle.machine.specs.declared.Ticked.{Ticked}
 use Rattle.machine.specs.Parts.{bit, each, engineAt}
 use Rattle.machine.specs.Outputs.{rowBit, affected}
-use Rattle.cores.specs.Core.{engineOf}
+use Rattle.engine_core.specs.Core.{engineOf}
 use Rattle.beats.specs.declared.Cores.{Cores}
 use Rattle.beats.specs.declared.CoresTurned.{CoresTurned}
 use Rattle.beats.specs.declared.CoresTicked.{CoresTicked}

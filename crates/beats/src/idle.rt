@@ -1,14 +1,14 @@
 // Beats in which the engines do no more than wait: nearly all, where lights stay on long enough to be
 // seen. They are told apart first, since they need no engine's turn.
 use crate::Cores;
-use cores::Core;
-use cores::Status;
-use cores::acts;
+use engine_core::Core;
+use engine_core::Status;
+use engine_core::acts;
 use machine::Progress;
 ghost use mathlib.Core.List.{List};
 ghost use mathlib.Core.Path.{_≡_};
 ghost use Prim.Native.Nat.{ℕ};
-ghost use Rattle.cores.specs.Core.{engineOf};
+ghost use Rattle.engine_core.specs.Core.{engineOf};
 ghost use Rattle.beats.specs.Parts.{Fixed, Lent, chipOf};
 ghost use Rattle.beats.specs.Idle.{leftOf, waitLeft, idles, allIdle, idled, allIdled};
 

@@ -10,7 +10,7 @@ mod stops;
 mod turns;
 mod whole;
 
-use cores::Core;
+use engine_core::Core;
 use machine::Ran;
 pub use whole::advance;
 

@@ -1,6 +1,6 @@
 // Triggers that become pending.
 use crate::Cores;
-use cores::Core;
+use engine_core::Core;
 ghost use mathlib.Core.Bool.{cond};
 ghost use mathlib.Core.List.{List};
 ghost use mathlib.Core.Path.{_≡_};
@@ -9,7 +9,7 @@ ghost use lib.Bits.{bitOr};
 ghost use Rattle.machine.specs.Parts.{each, withPending, withEngines};
 ghost use Rattle.machine.specs.Triggers.{receives, toPin};
 ghost use Rattle.machine.specs.Tick.{withPulse};
-ghost use Rattle.cores.specs.Core.{engineOf};
+ghost use Rattle.engine_core.specs.Core.{engineOf};
 ghost use Rattle.beats.specs.Parts.{Fixed, Lent, chipOf};
 
 // The bit of the external trigger pin.

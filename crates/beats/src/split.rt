@@ -1,7 +1,7 @@
 // A chip taken into the parts that a beat works on, and put together again.
 use crate::Cores;
-use cores::core_of;
-use cores::engine_of;
+use engine_core::core_of;
+use engine_core::engine_of;
 use machine::Chip;
 use machine::Output;
 ghost use mathlib.Core.List.{map};

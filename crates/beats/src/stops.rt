@@ -1,15 +1,15 @@
 // Whether a beat changes nothing, and whether a run stops before it.
 use super::beats::any;
 use crate::Cores;
-use cores::Core;
-use cores::acts;
-use engine_state::is_load;
+use engine_core::Core;
+use engine_core::acts;
+use engine_core::is_load;
 ghost use mathlib.Core.List.{List};
 ghost use mathlib.Core.Path.{_≡_};
 ghost use Prim.Native.Nat.{ℕ};
 ghost use Rattle.machine.specs.Tick.{loads, stopped};
 ghost use Rattle.machine.specs.Run.{quiet};
-ghost use Rattle.cores.specs.Core.{engineOf};
+ghost use Rattle.engine_core.specs.Core.{engineOf};
 ghost use Rattle.beats.specs.Parts.{Fixed, Lent, chipOf};
 
 fn loads(k: Core) -> bool

@@ -4,9 +4,9 @@
 mod runs;
 mod ticks;
 
-pub use chip_state::new_chip;
-pub use chip_state::read_interrupts;
-pub use registers::burst;
+pub use host::burst;
+pub use host::new_chip;
+pub use host::read_interrupts;
 pub use runs::MOST_BEATS;
 pub use runs::run;
 pub use ticks::tick;

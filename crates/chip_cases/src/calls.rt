@@ -18,7 +18,7 @@ fn answered(m: Chip, n: Numbers) -> Chip {
     let written = burst_of(m, numbers::wide(n, 0), n, 1);
     let outcome = written.outcome;
     print::text(b" answer=");
-    print::decimal(outcomes::number_of(outcome) as u32);
+    print::decimal(refusals::number_of(outcome) as u32);
     written.chip
 }
 

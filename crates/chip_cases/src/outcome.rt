@@ -6,7 +6,7 @@ use machine::Written;
 
 // A refusal of what is meant to succeed; nothing for success.
 pub fn refusal(outcome: Outcome) {
-    let n = outcomes::number_of(outcome);
+    let n = refusals::number_of(outcome);
     if n != 0 {
         print::text(b" refused=");
         print::decimal(n as u32);

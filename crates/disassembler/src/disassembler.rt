@@ -21,7 +21,7 @@ fn check_writable(plan: Plan, image: &[u16]) -> Verdict
     if image.len() != WORDS {
         return Verdict::WrongLength;
     }
-    let ranges = plan_ranges::check_ranges(plan);
+    let ranges = checker::check_ranges(plan);
     let Verdict::Accept = ranges else {
         return ranges;
     };

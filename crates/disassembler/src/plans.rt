@@ -52,5 +52,5 @@ pub(super) fn put_plan(out: &mut [u8], at: usize, form: Form, engine: u16, q: En
     ensures { λ r. ⌜ Put (now (out .entry)) (now (out .exit)) (writeLine LP5523 form (planValues engine q) ++ (lineFeed ∷ [])) at r ⌝ }
 {
     let next = line_writer::put_line(out, at, form, plan_values(engine, q));
-    text_writing::put_byte(out, next, LINE_FEED)
+    text_bytes::put_byte(out, next, LINE_FEED)
 }

@@ -20,8 +20,8 @@ fn put_word(out: &mut [u8], at: usize, form: Form, code: u16) -> usize
     ensures { λ r. ⌜ Put (now (out .entry)) (now (out .exit)) (wordLine LP5523 form code ++ (lineFeed ∷ [])) at r ⌝ }
 {
     if let Form::Op = form {
-        let end = op_writer::put_op_line(out, at, code);
-        return text_writing::put_byte(out, end, LINE_FEED);
+        let end = op_codec::put_op_line(out, at, code);
+        return text_bytes::put_byte(out, end, LINE_FEED);
     }
     let v = Values {
         a: code,
@@ -33,7 +33,7 @@ fn put_word(out: &mut [u8], at: usize, form: Form, code: u16) -> usize
         g: 0,
     };
     let end = line_writer::put_line(out, at, form, v);
-    text_writing::put_byte(out, end, LINE_FEED)
+    text_bytes::put_byte(out, end, LINE_FEED)
 }
 
 // Writes the lines of all words.

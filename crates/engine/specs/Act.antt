@@ -2,7 +2,7 @@
 use Prim.Native.Nat.{ℕ}
 use mathlib.Core.Bool.{false}
 use mathlib.Core.List.{List}
-use Rattle.cores.specs.Core.{engineOf}
+use Rattle.engine_core.specs.Core.{engineOf}
 use Rattle.machine.specs.declared.Engine.{Engine}
 use Rattle.machine.specs.declared.Effect.the-variants.{Keep}
 use Rattle.machine.specs.declared.Act.{Act}

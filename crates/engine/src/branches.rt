@@ -3,14 +3,14 @@ use super::variables::variable;
 use super::word_end::ends;
 use super::word_end::goes_on;
 use crate::CoreAct;
-use cores::Core;
+use engine_core::Core;
 use machine::Effect;
 use word::Step;
 ghost use mathlib.Core.Path.{_≡_};
 ghost use Prim.Native.Nat.{_<_};
 ghost use Rattle.machine.specs.Branches.{branches};
 ghost use Rattle.machine.specs.Variables.{variable};
-ghost use Rattle.cores.specs.Core.{engineOf};
+ghost use Rattle.engine_core.specs.Core.{engineOf};
 ghost use Rattle.engine.specs.Act.{actOf};
 
 pub(super) fn branches(

@@ -4,7 +4,7 @@ use super::word_end::ends;
 use super::word_end::goes_on;
 use super::word_end::lasts;
 use crate::CoreAct;
-use cores::Core;
+use engine_core::Core;
 use machine::Effect;
 use machine::Progress;
 use word::Direction;
@@ -17,7 +17,7 @@ ghost use Rattle.machine.specs.declared.Effect.the-variants.{Move};
 ghost use Rattle.machine.specs.declared.Progress.the-variants.{Ramping};
 ghost use Rattle.machine.specs.WordEnd.{advance, ends, lasts};
 ghost use Rattle.machine.specs.Durations.{beatsOf, clampTime, waits, ramps, rampsFrom};
-ghost use Rattle.cores.specs.Core.{engineOf};
+ghost use Rattle.engine_core.specs.Core.{engineOf};
 ghost use Rattle.engine.specs.Act.{actOf};
 
 pub(super) fn beats_of(prescale: u16, time: u16) -> u16

@@ -7,7 +7,7 @@ use super::variables::variable;
 use super::word_end::advance;
 use super::word_end::ends;
 use crate::CoreAct;
-use cores::Core;
+use engine_core::Core;
 use machine::Effect;
 use word::Direction;
 ghost use mathlib.Core.List.{List};
@@ -17,7 +17,7 @@ ghost use Rattle.machine.specs.declared.Effect.the-variants.{Put};
 ghost use Rattle.machine.specs.WordEnd.{advance, ends};
 ghost use Rattle.machine.specs.Durations.{beatsOf, clampTime, waits, rampsFrom};
 ghost use Rattle.machine.specs.Variables.{variable};
-ghost use Rattle.cores.specs.Core.{engineOf};
+ghost use Rattle.engine_core.specs.Core.{engineOf};
 ghost use Rattle.engine.specs.Act.{actOf};
 
 pub(super) fn puts(k: Core, c: u8, value: u8) -> CoreAct

@@ -12,7 +12,7 @@ mod variables;
 mod word_end;
 mod words;
 
-use cores::Core;
+use engine_core::Core;
 use machine::Effect;
 pub use turns::turn;
 

@@ -3,8 +3,8 @@ use super::word_end::ends;
 use super::word_end::finish;
 use super::word_end::goes_on;
 use crate::CoreAct;
-use cores::Core;
-use cores::Status;
+use engine_core::Core;
+use engine_core::Status;
 use machine::Effect;
 use machine::Exec;
 use machine::Mode;
@@ -20,7 +20,7 @@ ghost use Rattle.machine.specs.declared.Effect.the-variants.{Keep};
 ghost use Rattle.machine.specs.Parts.{zeroCounts, withExec, withInterrupt, withLoops};
 ghost use Rattle.machine.specs.WordEnd.{finish, ends, goesOn};
 ghost use Rattle.machine.specs.Words.{stops, faults};
-ghost use Rattle.cores.specs.Core.{engineOf};
+ghost use Rattle.engine_core.specs.Core.{engineOf};
 ghost use Rattle.engine.specs.Act.{actOf};
 
 // rst

@@ -2,7 +2,7 @@
 use super::memory::word_at;
 use super::word_end::goes_on;
 use crate::CoreAct;
-use cores::Core;
+use engine_core::Core;
 use machine::Pointers;
 use word::Address;
 use word::MuxAtOp;
@@ -19,7 +19,7 @@ ghost use Rattle.machine.specs.Parts.{withMask};
 ghost use Rattle.machine.specs.WordEnd.{goesOn};
 ghost use Rattle.machine.specs.Outputs.{maskOf, maskOfOutput};
 ghost use Rattle.machine.specs.TablePointers.{nextIndex, previousIndex, pointed, points};
-ghost use Rattle.cores.specs.Core.{engineOf};
+ghost use Rattle.engine_core.specs.Core.{engineOf};
 ghost use Rattle.engine.specs.Act.{actOf};
 
 // Words of program memory.

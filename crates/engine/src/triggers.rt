@@ -3,14 +3,14 @@ use super::word_end::advance;
 use super::word_end::ends;
 use super::word_end::lasts;
 use crate::CoreAct;
-use cores::Core;
+use engine_core::Core;
 use machine::Effect;
 use machine::Progress;
 ghost use mathlib.Core.List.{List};
 ghost use mathlib.Core.Path.{_≡_};
 ghost use Prim.Native.Nat.{ℕ};
 ghost use Rattle.machine.specs.Triggers.{triggers};
-ghost use Rattle.cores.specs.Core.{engineOf};
+ghost use Rattle.engine_core.specs.Core.{engineOf};
 ghost use Rattle.engine.specs.Act.{actOf};
 
 pub(super) fn triggers(mut k: Core, c: u8, wait: u16, send: u16) -> CoreAct

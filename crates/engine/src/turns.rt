@@ -6,8 +6,8 @@ use super::stops::restarts;
 use super::triggers::triggers;
 use super::words::begins;
 use crate::CoreAct;
-use cores::Core;
-use cores::acts;
+use engine_core::Core;
+use engine_core::acts;
 use machine::Effect;
 use machine::Progress;
 use word::Step;
@@ -18,7 +18,7 @@ ghost use Prim.Native.Nat.{ℕ};
 ghost use Rattle.word.specs.Profile.{LP5523};
 ghost use Rattle.machine.specs.Parts.{withPc};
 ghost use Rattle.machine.specs.Turn.{acts, addressOf, returned, starts, beatOf};
-ghost use Rattle.cores.specs.Core.{engineOf};
+ghost use Rattle.engine_core.specs.Core.{engineOf};
 ghost use Rattle.engine.specs.Act.{actOf, rests};
 
 // Words of program memory.

@@ -3,7 +3,7 @@ use super::word_end::advance;
 use super::word_end::ends;
 use super::word_end::goes_on;
 use crate::CoreAct;
-use cores::Core;
+use engine_core::Core;
 use machine::Effect;
 use word::ArithOp;
 use word::ArithVarOp;
@@ -14,7 +14,7 @@ ghost use Prim.Native.Nat.{ℕ, _≤_};
 ghost use Rattle.machine.specs.WordEnd.{advance, ends};
 ghost use Rattle.machine.specs.Variables.{variable, subtracted, computed, combined, assigns, jumps, jumpTo};
 ghost use Rattle.machine.specs.declared.Effect.the-variants.{Keep};
-ghost use Rattle.cores.specs.Core.{engineOf};
+ghost use Rattle.engine_core.specs.Core.{engineOf};
 ghost use Rattle.engine.specs.Act.{actOf};
 
 pub(super) fn variable(k: Core, c: u8, d: u8, v: u16) -> u8

@@ -1,7 +1,7 @@
 // How a word goes on to its next beat, or ends.
 use crate::CoreAct;
-use cores::Core;
-use cores::Status;
+use engine_core::Core;
+use engine_core::Status;
 use machine::Effect;
 use machine::Exec;
 use machine::Progress;
@@ -10,7 +10,7 @@ ghost use mathlib.Core.List.{List};
 ghost use mathlib.Core.Path.{_≡_};
 ghost use Prim.Native.Nat.{ℕ};
 ghost use Rattle.machine.specs.WordEnd.{advance, pcAfter, execAfter, finish, ends, goesOn, lasts};
-ghost use Rattle.cores.specs.Core.{engineOf};
+ghost use Rattle.engine_core.specs.Core.{engineOf};
 ghost use Rattle.engine.specs.Act.{actOf};
 
 pub(super) fn advance(pc: Step, n: u16) -> Step

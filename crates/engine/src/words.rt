@@ -20,14 +20,14 @@ use super::variables::arith;
 use super::variables::arith_var;
 use super::variables::jump;
 use crate::CoreAct;
-use cores::Core;
+use engine_core::Core;
 use word::Word;
 ghost use mathlib.Core.List.{List};
 ghost use mathlib.Core.Path.{_≡_};
 ghost use Prim.Native.Nat.{ℕ, _<_};
 ghost use Rattle.word.specs.Profile.{LP5523};
 ghost use Rattle.machine.specs.Words.{begins};
-ghost use Rattle.cores.specs.Core.{engineOf};
+ghost use Rattle.engine_core.specs.Core.{engineOf};
 ghost use Rattle.engine.specs.Act.{actOf};
 ghost use Rattle.engine.specs.Operands.{Small, From};
 

@@ -36,7 +36,7 @@ fn in_ranges(n: u16, kind: usize) -> bool
 pub(super) fn read_number(v: &[u8]) -> Value
     ensures { λ r. ⌜ r ≡ held (upto 65535) (readNumber 65535 (now (v .entry))) ⌝ }
 {
-    let d = text_numbers::read_decimal(v, 65535);
+    let d = text_bytes::read_decimal(v, 65535);
     let Decimal::Number(n) = d else {
         return refused(d);
     };

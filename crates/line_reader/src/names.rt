@@ -16,5 +16,5 @@ pub(super) fn value_after(pair: &[u8], k: usize) -> &[u8]
     let places = NAME_AT;
     let a = places[k] as usize;
     let e = places[k + 1] as usize;
-    text_values::value_of(pair, &NAMES[a..e])
+    text_bytes::value_of(pair, &NAMES[a..e])
 }

@@ -52,7 +52,7 @@ fn read_pairs(line: &[u8], at: usize, pair: usize, end: usize) -> LineRead
     if at > line.len() {
         return LineRead::Refused(20);
     }
-    let part = text_parts::part_at(line, at, SPACE);
+    let part = text_bytes::part_at(line, at, SPACE);
     let next = at + part.len() + 1;
     let value = read_pair(part, pair);
     if stops(pair, value) {

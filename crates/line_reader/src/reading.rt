@@ -23,9 +23,9 @@ const OPS: usize = 31;
 fn read_op(line: &[u8]) -> LineRead
     ensures { λ r. ⌜ r ≡ lineReadOf (readOp LP5523 (split space (now (line .entry)))) ⌝ }
 {
-    let part = text_parts::part_at(line, 0, SPACE);
+    let part = text_bytes::part_at(line, 0, SPACE);
     let next = part.len() + 1;
-    let op = read_word(text_values::value_of(part, b"op"), 0, OPS);
+    let op = read_word(text_bytes::value_of(part, b"op"), 0, OPS);
     let Value::Number(o) = op else {
         return stopped(line, next, op, 21);
     };
@@ -36,8 +36,8 @@ fn read_op(line: &[u8]) -> LineRead
 fn read_single(line: &[u8], key: &[u8]) -> LineRead
     ensures { λ r. ⌜ r ≡ lineReadOf (readForm (number16 (now (key .entry)) ∷ []) (split space (now (line .entry)))) ⌝ }
 {
-    let part = text_parts::part_at(line, 0, SPACE);
-    let value = read_number(text_values::value_of(part, key));
+    let part = text_bytes::part_at(line, 0, SPACE);
+    let value = read_number(text_bytes::value_of(part, key));
     before(value, at_end(line, part.len() + 1))
 }
 

@@ -15,8 +15,8 @@ fn all_pairs(line: &[u8], from: usize) -> bool
 {
     let mut at = from;
     while at <= line.len() {
-        let part = text_parts::part_at(line, at, SPACE);
-        if !text_pairs::is_pair(part) {
+        let part = text_bytes::part_at(line, at, SPACE);
+        if !text_bytes::is_pair(part) {
             return false;
         }
         at = at + part.len() + 1;

@@ -19,7 +19,7 @@ fn place_of(v: &[u8], first: usize, count: usize) -> Value
     while i < count {
         let a = places[first + i] as usize;
         let e = places[first + i + 1] as usize;
-        if text_parts::same(v, &names[a..e]) {
+        if text_bytes::same(v, &names[a..e]) {
             return Value::Number(i as u16);
         }
         i += 1;
@@ -31,7 +31,7 @@ pub(super) fn read_word(v: &[u8], first: usize, count: usize) -> Value
     requires { ⌜ first + count ≤ 64 ⌝ }
     ensures { λ r. ⌜ r ≡ readWord (take count (drop first names)) (now (v .entry)) ⌝ }
 {
-    if text_pairs::is_word(v) {
+    if text_bytes::is_word(v) {
         return place_of(v, first, count);
     }
     Value::Malformed

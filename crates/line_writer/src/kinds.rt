@@ -13,7 +13,7 @@ pub(super) fn put_value(out: &mut [u8], at: usize, kind: usize, n: u16) -> usize
     ensures { λ r. ⌜ Put (now (out .entry)) (now (out .exit)) (writeValue (kindAt kind) n) at r ⌝ }
 {
     if kind < NUMBERS {
-        return text_decimals::put_decimal(out, at, n as u32);
+        return text_bytes::put_decimal(out, at, n as u32);
     }
     let k = kind - NUMBERS;
     let place = n as usize;

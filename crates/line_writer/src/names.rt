@@ -14,5 +14,5 @@ pub(super) fn put_name(out: &mut [u8], at: usize, k: usize) -> usize
     let places = NAME_AT;
     let a = places[k] as usize;
     let e = places[k + 1] as usize;
-    text_writing::put_bytes(out, at, &NAMES[a..e])
+    text_bytes::put_bytes(out, at, &NAMES[a..e])
 }

@@ -30,7 +30,7 @@ fn put_pair(out: &mut [u8], at: usize, pair: usize, n: u16) -> usize
     ensures { λ r. ⌜ Put (now (out .entry)) (now (out .exit)) (writePair (pairAt pair) n) at r ⌝ }
 {
     let key = put_name(out, at, PAIR_KEY[pair] as usize);
-    let sign = text_writing::put_byte(out, key, EQUALS_SIGN);
+    let sign = text_bytes::put_byte(out, key, EQUALS_SIGN);
     put_value(out, sign, PAIR_KIND[pair] as usize, n)
 }
 
@@ -55,7 +55,7 @@ fn put_pairs(out: &mut [u8], at: usize, first: usize, end: usize, v: Values) -> 
     let mut next = at;
     while pair < end {
         let n = value_at(v, i);
-        let start = text_writing::put_byte(out, next, SPACE);
+        let start = text_bytes::put_byte(out, next, SPACE);
         next = put_pair(out, start, pair, n);
         if stops(pair, n) {
             return next;
@@ -69,7 +69,7 @@ fn put_pairs(out: &mut [u8], at: usize, first: usize, end: usize, v: Values) -> 
 fn put_op(out: &mut [u8], at: usize, v: Values) -> usize
     ensures { λ r. ⌜ Put (now (out .entry)) (now (out .exit)) (join space (writeOp LP5523 (listOf v))) at r ⌝ }
 {
-    let key = text_writing::put_bytes(out, at, b"op=");
+    let key = text_bytes::put_bytes(out, at, b"op=");
     if v.a >= OPS {
         return key;
     }
@@ -91,9 +91,9 @@ fn put_form(out: &mut [u8], at: usize, form: usize, v: Values) -> usize
 fn put_single(out: &mut [u8], at: usize, key: &[u8], n: u16) -> usize
     ensures { λ r. ⌜ Put (now (out .entry)) (now (out .exit)) (writePair (number16 (now (key .entry))) n) at r ⌝ }
 {
-    let sign = text_writing::put_bytes(out, at, key);
-    let value = text_writing::put_byte(out, sign, EQUALS_SIGN);
-    text_decimals::put_decimal(out, value, n as u32)
+    let sign = text_bytes::put_bytes(out, at, key);
+    let value = text_bytes::put_byte(out, sign, EQUALS_SIGN);
+    text_bytes::put_decimal(out, value, n as u32)
 }
 
 // Writes a line with these values, without its LF, as far as the lent bytes reach; answers the place

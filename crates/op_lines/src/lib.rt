@@ -1,5 +1,4 @@
-// What op lines and words are to each other. The functions stand in `op_reader`, `op_writer` and
-// `word_disassembler`.
+// Op lines and instruction words: which line stands for which code. The functions stand in `op_codec`.
 
 // What reading an op line answers. `answerOf` in specs/Lines.antt gives each case's number.
 pub enum WordLine {

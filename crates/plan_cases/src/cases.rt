@@ -57,7 +57,7 @@ fn start(image: &[u16], words: usize) -> &[u16] {
 }
 
 fn judged(plan: Plan, image: &[u16; 97], whole: Numbers) -> Verdict {
-    plan_check::check(plan, start(image, size(whole)))
+    checker::check(plan, start(image, size(whole)))
 }
 
 pub fn checked(line: &[u8]) -> Verdict {

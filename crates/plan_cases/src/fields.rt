@@ -12,10 +12,10 @@ fn field(line: &[u8], place: usize) -> &[u8] {
         if at >= line.len() {
             return &line[..0];
         }
-        at = at + text_parts::part_at(line, at, SEMICOLON).len() + 1;
+        at = at + text_bytes::part_at(line, at, SEMICOLON).len() + 1;
         i += 1;
     }
-    text_parts::part_at(line, at, SEMICOLON)
+    text_bytes::part_at(line, at, SEMICOLON)
 }
 
 // The numbers of the field at a place.

@@ -66,7 +66,7 @@ pub fn read(field: &[u8]) -> Numbers {
     };
     let mut at = 0;
     while at < field.len() {
-        let digits = text_parts::part_at(field, at, SPACE);
+        let digits = text_bytes::part_at(field, at, SPACE);
         n = with(n, digits);
         at = at + digits.len() + 1;
     }

@@ -8,7 +8,7 @@ fn print_number(n: u16) {
 }
 
 pub fn print_answer(verdict: Verdict) {
-    let a = verdicts::report_of(verdict);
+    let a = refusals::report_of(verdict);
     io::write_all(1, b":");
     print_number(a.number);
     print_number(a.engine);

@@ -25,7 +25,7 @@ fn played(line: &[u8]) {
 pub fn play(script: &[u8]) {
     let mut at = 0;
     while at < script.len() {
-        let line = text_parts::part_at(script, at, LINE_FEED);
+        let line = text_bytes::part_at(script, at, LINE_FEED);
         played(line);
         at = at + line.len() + 1;
     }

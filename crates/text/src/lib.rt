@@ -1,6 +1,5 @@
 // What texts of bytes are: parts between separators, key=value pairs, decimal numbers, and writing into
-// lent bytes. The functions stand in `text_parts`, `text_pairs`, `text_values`, `text_numbers`,
-// `text_writing` and `text_decimals`.
+// lent bytes. The functions stand in `text_bytes`.
 
 // What reading a decimal number answers.
 pub enum Decimal {

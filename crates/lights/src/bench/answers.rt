@@ -25,8 +25,8 @@ use crate::texts::pieces::place_of;
 use crate::texts::pieces::until;
 use machine::Chip;
 use machine::Outcome;
-use text_parts::part_at;
-use text_parts::same;
+use text_bytes::part_at;
+use text_bytes::same;
 
 // The chip after a command, and how the command ended.
 pub struct Answered {

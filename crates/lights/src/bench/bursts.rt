@@ -5,8 +5,8 @@ use crate::cli::numbers::read_byte;
 use crate::cli::numbers::read_number;
 use crate::texts::pieces::SPACE;
 use crate::texts::pieces::after;
-use text_parts::part_at;
-use text_writing::put_byte;
+use text_bytes::part_at;
+use text_bytes::put_byte;
 
 pub enum Burst {
     // the first register, and how many of the lent bytes

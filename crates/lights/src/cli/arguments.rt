@@ -3,8 +3,8 @@
 use crate::texts::pieces::SPACE;
 use crate::texts::pieces::after;
 use crate::texts::pieces::nth_place;
-use text_parts::part_at;
-use text_writing::put_bytes;
+use text_bytes::part_at;
+use text_bytes::put_bytes;
 
 pub enum Source {
     Program,

@@ -37,8 +37,8 @@ use crate::texts::pieces::SPACE;
 use crate::texts::pieces::from;
 use crate::texts::pieces::nth_place;
 use crate::texts::pieces::until;
-use text_writing::put_byte;
-use text_writing::put_bytes;
+use text_bytes::put_byte;
+use text_bytes::put_bytes;
 use word::WORDS;
 
 // Where a line about a command goes that can't be understood: the lines of standard input get their

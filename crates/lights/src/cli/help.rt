@@ -12,8 +12,8 @@ use crate::sentences::templates;
 use crate::texts::pieces;
 use crate::texts::pieces::LINE_FEED;
 use crate::texts::pieces::nth;
-use text_writing::put_byte;
-use text_writing::put_bytes;
+use text_bytes::put_byte;
+use text_bytes::put_bytes;
 
 pub enum Command {
     Check,
@@ -158,7 +158,7 @@ fn one(place: usize) -> Status
 // help with the name of a command, or of the ops.
 pub fn about(to: Channel, name: &[u8]) -> Status {
     let mut out = [0u8; ANSWER];
-    if text_parts::same(name, b"ops") {
+    if text_bytes::same(name, b"ops") {
         let n = put_ops(&mut out);
         return made(&out, n);
     }

@@ -3,8 +3,8 @@ use super::arguments;
 use super::arguments::Argument;
 use super::arguments::Source;
 use crate::texts::pieces::until;
-use text_parts::same;
-use text_writing::put_bytes;
+use text_bytes::put_bytes;
+use text_bytes::same;
 
 // The most bytes that a name has.
 pub const LONGEST: usize = 4096;

@@ -11,7 +11,7 @@ pub enum Beats {
 }
 
 pub fn read_beats(part: &[u8]) -> Beats {
-    match text_numbers::read_decimal(part, TOO_MANY) {
+    match text_bytes::read_decimal(part, TOO_MANY) {
         Decimal::Number(n) => Beats::Number(n),
         Decimal::Outside => Beats::Number(TOO_MANY),
         Decimal::Malformed => Beats::Malformed,
@@ -26,7 +26,7 @@ pub enum Number {
 }
 
 pub fn read_number(part: &[u8]) -> Number {
-    let d = text_numbers::read_decimal(part, 65535);
+    let d = text_bytes::read_decimal(part, 65535);
     let Decimal::Number(n) = d else {
         if let Decimal::Outside = d {
             return Number::TooLarge;
@@ -43,7 +43,7 @@ pub enum Byte {
 }
 
 pub fn read_byte(part: &[u8]) -> Byte {
-    let d = text_numbers::read_decimal(part, 255);
+    let d = text_bytes::read_decimal(part, 255);
     let Decimal::Number(n) = d else {
         if let Decimal::Outside = d {
             return Byte::TooLarge;

@@ -4,7 +4,7 @@ use super::status::Status;
 use crate::sentences::say::Message;
 use crate::sentences::templates::put_say;
 use crate::texts::pieces::until;
-use text_writing::put_byte;
+use text_bytes::put_byte;
 
 // No answer but a sheet or a picture is longer.
 pub const ANSWER: usize = 8192;

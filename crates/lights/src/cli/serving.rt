@@ -74,7 +74,7 @@ fn outer(first: Mode) -> Mode {
 
 // `quit` ends the bench, and lines of words or ops that stand among command lines.
 fn quits(mode: Mode, line: &[u8], outer: Mode) -> bool {
-    if !text_parts::same(line, b"quit") {
+    if !text_bytes::same(line, b"quit") {
         return false;
     }
     match mode {

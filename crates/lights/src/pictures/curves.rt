@@ -11,7 +11,7 @@ use super::xml::put_text;
 use crate::texts::pieces::SPACE;
 use crate::texts::pieces::nth;
 use machine::Chip;
-use text_writing::put_bytes;
+use text_bytes::put_bytes;
 ghost use Prim.Native.Nat.{_<_, _≤_};
 
 // The levels of output k, each from its column's left end on, where it is another than before.

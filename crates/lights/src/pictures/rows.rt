@@ -6,8 +6,8 @@ use super::names;
 use super::scale;
 use crate::texts::pieces::nth;
 use machine::Chip;
-use text_writing::put_byte;
-use text_writing::put_bytes;
+use text_bytes::put_byte;
+use text_bytes::put_bytes;
 ghost use Prim.Native.Nat.{_<_, _≤_};
 
 // Output k's label, its shades and a bar.

@@ -1,8 +1,8 @@
 // Moments are counted from beat 0 in tenths of a millisecond, so 10,000 of them are a second, which
 // is 2048 beats; 625 are 128 beats. Two numbers of 32 bits make at most 8,589,934,590 beats, which
 // is below 50,000,000,000 moments.
-use text_decimals::put_decimal;
-use text_writing::put_byte;
+use text_bytes::put_byte;
+use text_bytes::put_decimal;
 ghost use Prim.Native.Nat.{_+_, _*_, _<_, _≤_};
 
 const SECOND: u64 = 10_000;

@@ -1,7 +1,7 @@
 // Any bytes as a text of XML.
 use super::patterns;
 use super::patterns::put_piece;
-use text_writing::put_byte;
+use text_bytes::put_byte;
 
 fn put_escaped(out: &mut [u8], at: usize, b: u8) -> usize {
     match b {

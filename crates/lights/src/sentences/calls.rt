@@ -30,7 +30,7 @@ fn sentence(outcome: Outcome) -> Say {
 
 // A call's refusal, after this head, which has its number.
 pub fn of_outcome(head: usize, outcome: Outcome) -> Message {
-    let number = outcomes::number_of(outcome) as u32;
+    let number = refusals::number_of(outcome) as u32;
     refused(say_one(head, number), sentence(outcome))
 }
 

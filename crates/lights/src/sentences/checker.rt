@@ -68,7 +68,7 @@ fn word_head(origin: Origin, number: u32, engine: u32, address: u16) -> Say {
 
 // What stands before the sentence.
 fn head_of(origin: Origin, verdict: Verdict) -> Say {
-    let report = verdicts::report_of(verdict);
+    let report = refusals::report_of(verdict);
     let number = report.number as u32;
     let engine = report.engine as u32;
     let address = report.address;
@@ -128,7 +128,7 @@ fn range_of(q: EnginePlan) -> Range {
 // 14: where the word can step to.
 fn of_stray(engine: u32, q: EnginePlan, address: Address, w: Word) -> Say {
     let r = range_of(q);
-    match plan_successors::stray_of(q, address.0, plan_successors::flow_of(w)) {
+    match checker::stray_of(q, address.0, checker::flow_of(w)) {
         Stray::Inside => say_three(templates::LEAVES, engine, r.first, r.last),
         Stray::To(to) => Say {
             template: templates::STEP_OUTSIDE,
@@ -201,7 +201,7 @@ pub fn of_verdict(origin: Origin, plan: Plan, image: &[u16], verdict: Verdict) -
 
 // What the disassembler refuses.
 pub fn of_written(plan: Plan, image: &[u16], answer: Disassembled) -> Message {
-    let number = sheet_answers::written_report_of(answer).number as u32;
+    let number = refusals::written_report_of(answer).number as u32;
     match answer {
         Disassembled::Length(_) => right(templates::DONE),
         Disassembled::Refused(verdict) => of_verdict(Origin::Image, plan, image, verdict),

@@ -4,9 +4,9 @@ use super::shown::put_changed;
 use super::tables::put_name;
 use super::values::put_allowed;
 use super::values::put_pairs;
-use text_decimals::put_decimal;
-use text_writing::put_byte;
-use text_writing::put_bytes;
+use text_bytes::put_byte;
+use text_bytes::put_bytes;
+use text_bytes::put_decimal;
 ghost use Prim.Native.Nat.{_<_};
 
 // The place of the next sign's number, after a byte whose own would be the one at `place`. No template

@@ -128,7 +128,7 @@ fn one_more(n: u32) -> u32 {
 }
 
 pub fn of_sheet(text: &[u8], read: Assembled) -> Message {
-    let number = sheet_answers::line_report_of(read).number as u32;
+    let number = refusals::line_report_of(read).number as u32;
     let head = say_one(templates::REFUSED_FILE, number);
     match read {
         Assembled::Program(_) => right(templates::DONE),
@@ -148,14 +148,14 @@ pub fn of_sheet(text: &[u8], read: Assembled) -> Message {
             // the checker gives the engine
             let plan = plan_of(text);
             let none = [0u16; 0];
-            checker::of_verdict(Origin::Sheet, plan, &none, plan_ranges::check_ranges(plan))
+            checker::of_verdict(Origin::Sheet, plan, &none, checker::check_ranges(plan))
         }
     }
 }
 
 // A refusal of an op line by itself.
 pub fn of_op_line(line: &[u8], read: WordLine) -> Message {
-    let number = sheet_answers::op_line_number_of(read) as u32;
+    let number = refusals::op_line_number_of(read) as u32;
     match read {
         WordLine::Code(_) => right(templates::DONE),
         WordLine::Malformed | WordLine::UnknownOp | WordLine::OutsideField => Message {

@@ -1,7 +1,7 @@
 // Bytes of others, shown or compared.
 use crate::texts::pieces::until;
-use text_writing::put_byte;
-use text_writing::put_bytes;
+use text_bytes::put_byte;
+use text_bytes::put_bytes;
 
 // How many bytes of a text of a sheet are quoted.
 pub const MOST_QUOTED: usize = 40;

@@ -14,8 +14,8 @@ use grammar::PAIR_KEY;
 use grammar::PAIR_KIND;
 use grammar::WORD_COUNT;
 use grammar::WORD_FIRST;
-use text_parts::same;
-use text_writing::put_bytes;
+use text_bytes::put_bytes;
+use text_bytes::same;
 ghost use Prim.Native.Nat.{_≤_, _<_};
 
 // The ops come first among the names.

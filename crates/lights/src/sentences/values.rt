@@ -12,9 +12,9 @@ use super::tables::ranges_of;
 use super::tables::words_of;
 use crate::texts::pieces::LINE_FEED;
 use crate::texts::pieces::nth;
-use text_decimals::put_decimal;
-use text_writing::put_byte;
-use text_writing::put_bytes;
+use text_bytes::put_byte;
+use text_bytes::put_bytes;
+use text_bytes::put_decimal;
 ghost use Prim.Native.Nat.{_<_};
 
 const FIRST: usize = 0;

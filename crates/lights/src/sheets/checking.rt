@@ -12,7 +12,7 @@ use plan::Plan;
 use plan::Verdict;
 
 fn judged(plan: Plan, image: &[u16]) -> Found {
-    let verdict = plan_check::check(plan, image);
+    let verdict = checker::check(plan, image);
     let Verdict::Accept = verdict else {
         return missing(checker::of_verdict(Origin::Sheet, plan, image, verdict));
     };

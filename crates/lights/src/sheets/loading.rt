@@ -29,7 +29,7 @@ const ALL_LOAD: u8 = 21;
 // The chip after a burst of the loading. No accepted program's is refused; if one is, that is said.
 fn done(written: Written) -> Chip {
     let outcome = written.outcome;
-    if !outcomes::is_success(outcome) {
+    if !host::is_success(outcome) {
         tell(lost(templates::LOADING_REFUSED));
     }
     written.chip

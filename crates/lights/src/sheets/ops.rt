@@ -19,8 +19,8 @@ use crate::texts::pieces::after;
 use crate::texts::words::put_hex;
 use op_lines::WordLine;
 use op_lines::WordWritten;
-use text_parts::part_at;
-use text_writing::put_byte;
+use text_bytes::part_at;
+use text_bytes::put_byte;
 
 // A word's op line.
 pub fn decode(word: &[u8]) -> Status {
@@ -28,7 +28,7 @@ pub fn decode(word: &[u8]) -> Status {
     let Hex::Word(code) = read_hex(word) else {
         return tell(malformed(Channel::Output, templates::NO_WORD));
     };
-    let WordWritten::Length(end) = word_disassembler::disassemble_word(code, &mut out) else {
+    let WordWritten::Length(end) = op_codec::disassemble_word(code, &mut out) else {
         return tell(plain(say_only(templates::UNDEFINED)));
     };
     let n = put_byte(&mut out, end, b'\n');
@@ -52,7 +52,7 @@ pub fn decode_line(line: &[u8]) -> Status {
 // An op line's word.
 pub fn encode(line: &[u8]) -> Status {
     let mut out = [0u8; ANSWER];
-    let read = op_reader::assemble_line(line);
+    let read = op_codec::assemble_line(line);
     let WordLine::Code(code) = read else {
         return tell(on_output(reader::of_op_line(line, read)));
     };

@@ -3,8 +3,8 @@ use crate::cli::numbers::Number;
 use crate::cli::numbers::read_number;
 use crate::texts::pieces::from;
 use plan::EnginePlan;
-use text_parts::part_at;
-use text_parts::same;
+use text_bytes::part_at;
+use text_bytes::same;
 use word::Address;
 
 pub enum Planned {

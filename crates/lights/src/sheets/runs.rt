@@ -14,7 +14,7 @@ use crate::sentences::templates::put_say;
 use machine::Chip;
 use machine::Outcome;
 use plan::Plan;
-use text_writing::put_byte;
+use text_bytes::put_byte;
 use word::WORDS;
 
 // What is wanted of the beats.

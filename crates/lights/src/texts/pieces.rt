@@ -1,6 +1,6 @@
 // The parts of a text between separators.
-use text_parts::part_at;
-use text_parts::same;
+use text_bytes::part_at;
+use text_bytes::same;
 ghost use Prim.Native.Nat.{_<_, _≤_};
 
 pub const LINE_FEED: u8 = b'\n';

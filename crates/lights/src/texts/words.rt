@@ -1,6 +1,6 @@
 // Words of memory in hexadecimal digits.
-use text_writing::put_byte;
-use text_writing::put_bytes;
+use text_bytes::put_byte;
+use text_bytes::put_bytes;
 
 fn glyph(n: u16) -> u8 {
     let glyphs = b"0123456789ABCDEF";

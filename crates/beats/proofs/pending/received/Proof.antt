@@ -4,7 +4,7 @@ use mathlib.Core.Path.{_≡_, refl, ap}
 use native.Mathlib.Omega.{arith}
 use borrow.Author.Needs.{needs}
 use lib.Dec.{eqb}
-use Rattle.cores.specs.Core.{engineOf}
+use Rattle.engine_core.specs.Core.{engineOf}
 use Rattle.beats.specs.Parts.{chipOf}
 use Rattle.beats.proofs.Engines.{three, receives-bit}
 use Rattle.beats.proofs.pending.received.Statement.{statement}

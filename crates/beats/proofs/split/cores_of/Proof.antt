@@ -3,7 +3,7 @@ use mathlib.Core.Path.{_≡_, refl}
 use borrow.Author.Needs.{needs}
 use lib.ListN.{length}
 use Rattle.beats.proofs.Engines.{whole}
-use Rattle.cores.proofs.Three.{unmapped}
+use Rattle.engine_core.proofs.Three.{unmapped}
 use Rattle.beats.proofs.split.cores_of.Statement.{statement}
 use Rattle.beats.proofs.split.cores_of.Tie as tie
 

@@ -4,8 +4,8 @@ use native.Mathlib.Omega.{arith}
 use borrow.Author.Needs.{needs}
 use lib.ListN.{length}
 use Rattle.machine.specs.declared.Engine.{Engine}
-use Rattle.cores.proofs.Three.{unmapped}
-use Rattle.cores.proofs.Three.{getD-any}
+use Rattle.engine_core.proofs.Three.{unmapped}
+use Rattle.engine_core.proofs.Three.{getD-any}
 use Rattle.beats.proofs.split.counts_of.Statement.{statement}
 use Rattle.beats.proofs.split.counts_of.Tie as tie
 

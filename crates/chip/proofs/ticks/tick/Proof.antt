@@ -2,7 +2,7 @@
 use mathlib.Core.Path.{_≡_, _∙_, ap}
 use borrow.Author.Needs.{needs}
 use lib.ListN.{length}
-use Rattle.cores.proofs.Three.{unmapped}
+use Rattle.engine_core.proofs.Three.{unmapped}
 use Rattle.beats.specs.Spans.{tickedFrom}
 use Rattle.beats.proofs.SpanOf.{ended-three, beat-of-span}
 use Rattle.chip.proofs.ticks.tick.Statement.{statement}

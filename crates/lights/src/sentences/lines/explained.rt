@@ -24,9 +24,9 @@ use crate::texts::pieces::op_in;
 use crate::texts::pieces::until;
 use grammar::Form;
 use text::Decimal;
-use text_numbers::read_decimal;
-use text_parts::part_at;
-use text_parts::same;
+use text_bytes::part_at;
+use text_bytes::read_decimal;
+use text_bytes::same;
 ghost use Prim.Native.Nat.{_≤_, _<_};
 
 const TAB: u8 = 9;
@@ -115,7 +115,7 @@ fn of_plan(line: &[u8], engine: u32) -> Say
 
 // A line of one pair, whose value is a number of 16 bits: the sentence about its range, or its shape.
 fn of_single(line: &[u8], key: &[u8], range: usize, shape: usize) -> Say {
-    if let Decimal::Outside = read_decimal(text_values::value_of(line, key), MOST) {
+    if let Decimal::Outside = read_decimal(text_bytes::value_of(line, key), MOST) {
         return say_one(range, MOST);
     }
     say_only(shape)

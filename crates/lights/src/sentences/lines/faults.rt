@@ -17,8 +17,8 @@ use crate::texts::pieces::key_of;
 use crate::texts::pieces::value_of;
 use grammar::DECISION;
 use text::Decimal;
-use text_numbers::read_decimal;
-use text_parts::part_at;
+use text_bytes::part_at;
+use text_bytes::read_decimal;
 
 // The ranks of pairs. A line is refused for the first pair of the least rank, which is that of a pair with
 // another key.

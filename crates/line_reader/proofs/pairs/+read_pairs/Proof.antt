@@ -4,7 +4,7 @@ use mathlib.Core.Path.{_≡_, sym, ap, _∙_}
 use native.Mathlib.Omega.{arith}
 use borrow.Fn.Kinds.{In}
 use borrow.Fn.PlainCycle.{Measures, is, falls, and}
-use Rattle.text_parts.proofs.part_at.Reads as part-at-reads
+use Rattle.text_bytes.proofs.part_at.Reads as part-at-reads
 use Rattle.grammar.specs.declared.LineRead.the-variants.{Refused}
 use Rattle.grammar.specs.Form.{Reading, refused}
 use Rattle.grammar.specs.Tables.{lineReadOf, beforeRead}

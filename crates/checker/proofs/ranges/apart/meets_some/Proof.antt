@@ -1,0 +1,24 @@
+-- `checker::ranges::apart::meets_some` meets its contract.
+use mathlib.Core.Path.{_≡_, refl, sym, _∙_}
+use mathlib.Core.Bool.{Bool, true, false, _||_}
+use borrow.Author.Needs.{needs}
+use Rattle.checker.proofs.ranges.apart.meets_some.Statement.{statement}
+use Rattle.checker.proofs.ranges.apart.meets_some.Tie as tie
+
+or-false : (b : Bool) → (b || false) ≡ b
+or-false true = refl
+or-false false = refl
+
+pub meets-some-spec : {M : Type 1} → statement M
+meets-some-spec =
+    tie.close
+    (tie.spec
+    (search needs)
+    (λ c. simp (sym (c .before .meets-table-of .ensures) ∙ c .if1 .taken))
+    (search needs)
+    (λ c. simp (sym (c .before .before .before .meets-table-of .ensures) ∙ c .before .before .if1 .left, sym (c .before .meets-table-of2 .ensures) ∙ c .if2 .taken))
+    (search needs)
+    (λ c.
+    let c2 = c .before .before in let c3 = c2 .before in let c4 = c3 .before in
+    simp (sym (c4 .meets-table-of .ensures) ∙ c3 .if1 .left, sym (c2 .meets-table-of2 .ensures) ∙ c .before .if2 .left, or-false)
+    (c .meets-table-of3 .ensures)))

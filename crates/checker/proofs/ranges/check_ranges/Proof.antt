@@ -1,0 +1,16 @@
+use Rattle.plan.proofs.Laws.{failed, passed, stops, goes-on}
+use Rattle.plan.proofs.Passes.{ranges}
+use Rattle.checker.proofs.ranges.check_ranges.Statement.{statement}
+use Rattle.checker.proofs.ranges.check_ranges.Tie as tie
+
+pub check-ranges-spec : {M : Type 1} → statement M
+check-ranges-spec =
+    tie.close
+    (tie.spec
+    (λ c κs. tt)
+    (λ c κs. tt)
+    (λ c. ranges _ (stops _ (c .before .before .check-order .ensures) (failed (c .before .is-accept .ensures) (c .if1 .taken))))
+    (λ c κs. tt)
+    (λ c.
+    ranges _
+    (goes-on (c .before .before .before .check-order .ensures) (passed (c .before .before .is-accept .ensures) (c .before .if1 .left)) (c .check-apart .ensures))))

@@ -1,0 +1,4 @@
+mod Addresses
+mod Bytes
+mod Holders
+mod Single

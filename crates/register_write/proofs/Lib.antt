@@ -1,2 +1,0 @@
-mod Holders
-mod Single

@@ -1,0 +1,30 @@
+// Words, and key=value pairs.
+use crate::pieces::part_at;
+ghost use mathlib.Core.Path.{_≡_};
+ghost use Rattle.text.specs.Bytes.{isWord, isPair};
+
+const EQUALS_SIGN: u8 = 61;
+
+// Whether a value has a byte, and no equals sign.
+pub fn is_word(v: &[u8]) -> bool
+    ensures { λ r. ⌜ r ≡ isWord (now (v .entry)) ⌝ }
+{
+    if v.len() == 0 {
+        return false;
+    }
+    part_at(v, 0, EQUALS_SIGN).len() == v.len()
+}
+
+// Whether a part is a key, an equals sign and a value.
+pub fn is_pair(p: &[u8]) -> bool
+    ensures { λ r. ⌜ r ≡ isPair (now (p .entry)) ⌝ }
+{
+    let k = part_at(p, 0, EQUALS_SIGN).len();
+    if k == 0 {
+        return false;
+    }
+    if k >= p.len() {
+        return false;
+    }
+    is_word(&p[k + 1..])
+}
