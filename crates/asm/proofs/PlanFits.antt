@@ -7,8 +7,8 @@ use mathlib.Core.Logic.{⊎-elim}
 use mathlib.Core.Path.{_≡_, refl, sym, ap, _∙_}
 use native.Mathlib.Omega.{arith}
 use Rattle.text.specs.Bytes.{ascii}
-use Rattle.word.specs.Profile.{Profile, LP5523, wordsOf}
-use Rattle.word.specs.Field.{address, inside, rangesOf, _to_}
+use Rattle.word.specs.Profile.{Profile, LP5523, wordsOf, _to_}
+use Rattle.word.specs.Field.{address, inside, rangesOf}
 use Rattle.word.specs.Decode.{addressAt}
 use Rattle.word.specs.declared.Address.{Address}
 use Rattle.plan.specs.declared.EnginePlan.{EnginePlan}

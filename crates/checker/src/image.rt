@@ -12,6 +12,7 @@ use crate::ranges::check_ranges;
 use plan::EnginePlan;
 use plan::Plan;
 use plan::Verdict;
+use word::WORDS;
 ghost use mathlib.Core.Bool.{true};
 ghost use mathlib.Core.Path.{_≡_};
 ghost use lib.ListN.{length};
@@ -19,9 +20,6 @@ ghost use Rattle.word.specs.Profile.{LP5523};
 ghost use Rattle.plan.specs.Tests.{inOrder};
 ghost use Rattle.plan.specs.Check.{checkOf};
 ghost use Rattle.plan.specs.Passes.{engineVerdict, enginesVerdict};
-
-// Words of program memory.
-const WORDS: u16 = 96;
 
 fn check_engine(q: EnginePlan, engine: u16, image: &[u16]) -> Verdict
     requires { ⌜ (length (now image) ≡ 96) × (inOrder LP5523 q ≡ true) ⌝ }
@@ -56,7 +54,7 @@ fn check_engines(plan: Plan, image: &[u16]) -> Verdict
 pub fn check(plan: Plan, image: &[u16]) -> Verdict
     ensures { λ r. ⌜ r ≡ checkOf LP5523 plan (now (image .entry)) ⌝ }
 {
-    if image.len() != WORDS as usize {
+    if image.len() != WORDS {
         return Verdict::WrongLength;
     }
     let ranges = check_ranges(plan);

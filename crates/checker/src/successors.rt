@@ -1,15 +1,17 @@
 // 14: every successor of a word lies in the engine's own code.
 mod flows;
 
-pub(super) use flows::flow_of;
+use crate::successors::flows::flow_of;
 use plan::EnginePlan;
 use plan::Stray;
 use word::Address;
 use word::Flow;
 use word::Step;
+use word::Word;
 ghost use mathlib.Core.List.{[], _∷_};
 ghost use mathlib.Core.Path.{_≡_};
 ghost use Prim.Native.Nat.{_+_};
+ghost use Rattle.word.specs.Classes.{flowOf};
 ghost use Rattle.plan.specs.Ranges.{firstOf};
 ghost use Rattle.plan.specs.Conditions.{unlessEndless};
 ghost use Rattle.plan.specs.Tests.{inRange, inCode, successorsInside};
@@ -40,18 +42,19 @@ fn in_code(q: EnginePlan, at: u32) -> bool
     }
 }
 
-fn first_of(q: EnginePlan) -> u16
-    ensures { λ r. ⌜ r ≡ firstOf q ⌝ }
+// The engine's first code address.
+fn first_of(q: EnginePlan) -> Address
+    ensures { λ r. ⌜ r .0 ≡ firstOf q ⌝ }
 {
     match q {
-        EnginePlan::Unused => 0,
-        EnginePlan::Code { first, last: _ } => first.0,
+        EnginePlan::Unused => Address(0),
+        EnginePlan::Code { first, last: _ } => first,
         EnginePlan::CodeAndTable {
             first,
             last: _,
             top: _,
             bottom: _,
-        } => first.0,
+        } => first,
     }
 }
 
@@ -75,35 +78,35 @@ fn first_outside(q: EnginePlan, one: u32, other: u32) -> Stray
     one_outside(q, other)
 }
 
-// A step counts from the engine's first word.
-fn target_of(q: EnginePlan, step: Step) -> u32
-    ensures { λ r. ⌜ r ≡ firstOf q + step .0 ⌝ }
+// A step counts from the engine's first word. Nowhere else is a step added to an address.
+fn target_of(first: Address, step: Step) -> u32
+    ensures { λ r. ⌜ r ≡ first .0 + step .0 ⌝ }
 {
-    first_of(q) as u32 + step.0 as u32
+    first.0 as u32 + step.0 as u32
 }
 
 // The next word is no successor of a branch with loops=0.
 fn branch_outside(q: EnginePlan, loops: u16, step: Step, next: u32) -> Stray
     ensures { λ r. ⌜ r ≡ firstOutside (inCode q) ((firstOf q + step .0) ∷ unlessEndless loops next) ⌝ }
 {
-    let target = target_of(q, step);
+    let target = target_of(first_of(q), step);
     if loops == 0 {
         return one_outside(q, target);
     }
     first_outside(q, target, next)
 }
 
-// The first successor of the word at address `at` that lies outside the engine's own code.
-pub fn stray_of(q: EnginePlan, at: u16, flow: Flow) -> Stray
-    ensures { λ r. ⌜ r ≡ strayOf q at flow ⌝ }
+// The first successor outside, by where the word at the address lets its engine go on.
+fn first_stray(q: EnginePlan, at: Address, flow: Flow) -> Stray
+    ensures { λ r. ⌜ r ≡ strayOf q (at .0) flow ⌝ }
 {
-    let next = at as u32 + 1;
+    let next = at.0 as u32 + 1;
     match flow {
         Flow::Next => one_outside(q, next),
-        Flow::Restart => one_outside(q, first_of(q) as u32),
+        Flow::Restart => one_outside(q, first_of(q).0 as u32),
         Flow::Stop { reset: _ } => Stray::Inside,
         Flow::Loop { loops, step } => branch_outside(q, loops, step, next),
-        Flow::LoopVar { loops: _, step } => first_outside(q, target_of(q, step), next),
+        Flow::LoopVar { loops: _, step } => { first_outside(q, target_of(first_of(q), step), next) }
         Flow::Skip {
             op: _,
             skip,
@@ -114,11 +117,18 @@ pub fn stray_of(q: EnginePlan, at: u16, flow: Flow) -> Stray
     }
 }
 
-// 14: every successor lies in the engine's own code.
-pub(super) fn successors_inside(q: EnginePlan, at: u16, flow: Flow) -> bool
-    ensures { λ r. ⌜ r ≡ successorsInside q at flow ⌝ }
+// The first successor of a word at an address that lies outside the engine's own code.
+pub fn stray_of(q: EnginePlan, at: Address, word: Word) -> Stray
+    ensures { λ r. ⌜ r ≡ strayOf q (at .0) (flowOf word) ⌝ }
 {
-    match stray_of(q, at, flow) {
+    first_stray(q, at, flow_of(word))
+}
+
+// 14: every successor lies in the engine's own code.
+pub(super) fn successors_inside(q: EnginePlan, at: Address, word: Word) -> bool
+    ensures { λ r. ⌜ r ≡ successorsInside q (at .0) (flowOf word) ⌝ }
+{
+    match stray_of(q, at, word) {
         Stray::Inside => true,
         Stray::To(_) => false,
     }

@@ -6,17 +6,17 @@ use mathlib.Core.Path.{_≡_, refl, sym, ap, _∙_}
 use borrow.Author.Tests.{eq-eqb, ne-eqb}
 use lib.Dec.{eqb}
 use lib.ListN.{length}
-use Rattle.word.specs.Profile.{Profile, LP5523}
+use Rattle.word.specs.Profile.{Profile, LP5523, upward}
 use Rattle.word.specs.Decode.{addressAt}
-use Rattle.word.specs.Classes.{flowOf}
+use Rattle.word.specs.Classes.{isUndefined}
 use Rattle.plan.specs.declared.EnginePlan.{EnginePlan}
 use Rattle.plan.specs.declared.EnginePlan.the-variants.{Unused, Code, CodeAndTable}
 use Rattle.plan.specs.declared.Plan.{Plan}
 use Rattle.plan.specs.declared.Verdict.{Verdict}
 use Rattle.plan.specs.declared.Verdict.the-variants.{Accept, WrongLength, OutOfOrder, CodeMeetsTable, UndefinedWord}
-use Rattle.plan.specs.Ranges.{planAt, upward, codeAddresses}
+use Rattle.plan.specs.Ranges.{planAt, codeAddresses}
 use Rattle.plan.specs.Conditions.{wordAt}
-use Rattle.plan.specs.Tests.{holds, isFault, inOrder}
+use Rattle.plan.specs.Tests.{holds, inOrder}
 use Rattle.plan.specs.Check.{engineNumbers, firstFailing, checkRangesOf}
 use Rattle.plan.specs.Passes.{orElse}
 use Rattle.plan.proofs.Laws.{scan-refused, scan-passed, scan-end}
@@ -31,11 +31,11 @@ module _ (P : Profile) (i : ℕ) (image : List ℕ) (a l : ℕ) where
   abbrev said : Bool → Verdict
   said b = cond (not b) Accept (UndefinedWord i (addressAt a))
 
-  pub undefined-here : a ≤ l → isFault (flowOf (wordAt P image a)) ≡ true → definedFrom P i image a (l + 1 - a) ≡ UndefinedWord i (addressAt a)
+  pub undefined-here : a ≤ l → isUndefined (wordAt P image a) ≡ true → definedFrom P i image a (l + 1 - a) ≡ UndefinedWord i (addressAt a)
   unfolding definedFrom
   undefined-here h e = scan-refused _ a l h (sym (ap said e)) refl
 
-  pub defined-here : a ≤ l → isFault (flowOf (wordAt P image a)) ≡ false
+  pub defined-here : a ≤ l → isUndefined (wordAt P image a) ≡ false
       → definedFrom P i image a (l + 1 - a) ≡ definedFrom P i image (a + 1) (l + 1 - (a + 1))
   unfolding definedFrom
   defined-here h e = scan-passed _ a l h (sym (ap said e)) refl
@@ -62,7 +62,7 @@ module _ (P : Profile) (p : Plan) (image : List ℕ) (i : ℕ) where
   unfolding firstFailing definedFrom
   range a n =
       ap (firstFailing (holds P p image)) (map-joined undefined (upward a n))
-      ∙ scanned P p image (λ x. undefined x ∷ []) (λ x. cond (not (isFault (flowOf (wordAt P image x)))) Accept (undefined x)) (λ x. refl) a n
+      ∙ scanned P p image (λ x. undefined x ∷ []) (λ x. cond (not (isUndefined (wordAt P image x))) Accept (undefined x)) (λ x. refl) a n
 
   engine : (q : EnginePlan) → firstFailing (holds P p image) (map undefined (codeAddresses q)) ≡ engineDefined P i q image
   unfolding firstFailing engineDefined

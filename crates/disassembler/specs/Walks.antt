@@ -4,7 +4,7 @@ use mathlib.Core.Bool.{cond, not}
 use mathlib.Core.List.{List}
 use Rattle.word.specs.Profile.{Profile}
 use Rattle.word.specs.Decode.{addressAt}
-use Rattle.word.specs.Classes.{flowOf}
+use Rattle.word.specs.Classes.{isUndefined}
 use Rattle.plan.specs.declared.EnginePlan.{EnginePlan}
 use Rattle.plan.specs.declared.EnginePlan.the-variants.{Unused, Code, CodeAndTable}
 use Rattle.plan.specs.declared.Plan.{Plan}
@@ -12,7 +12,6 @@ use Rattle.plan.specs.declared.Verdict.{Verdict}
 use Rattle.plan.specs.declared.Verdict.the-variants.{Accept, UndefinedWord}
 use Rattle.plan.specs.Ranges.{planAt}
 use Rattle.plan.specs.Conditions.{wordAt}
-use Rattle.plan.specs.Tests.{isFault}
 use Rattle.plan.specs.Passes.{orElse, scan}
 use Rattle.grammar.specs.declared.Form.{Form}
 use Rattle.grammar.specs.declared.Form.the-variants.{Op, Engine1, Engine2, Engine3, Row, Spare}
@@ -36,7 +35,7 @@ IsWordLine Spare = Unit {0}
 
 -- The first undefined word of n from address a upward, of an engine, and of the three.
 unfoldable pub definedFrom : Profile → ℕ → List ℕ → ℕ → ℕ → Verdict
-definedFrom P i image = scan (λ a. cond (not (isFault (flowOf (wordAt P image a)))) Accept (UndefinedWord i (addressAt a)))
+definedFrom P i image = scan (λ a. cond (not (isUndefined (wordAt P image a))) Accept (UndefinedWord i (addressAt a)))
 
 unfoldable pub engineDefined : Profile → ℕ → EnginePlan → List ℕ → Verdict
 engineDefined P i Unused image = Accept

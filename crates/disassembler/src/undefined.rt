@@ -1,27 +1,17 @@
 // 13: undefined words in code.
+use decoder::decode;
+use decoder::is_undefined;
 use plan::EnginePlan;
 use plan::Plan;
 use plan::Verdict;
 use word::Address;
-use word::Word;
 ghost use mathlib.Core.Bool.{true};
 ghost use mathlib.Core.Path.{_≡_};
 ghost use Prim.Native.Nat.{_+_, _-_, _<_};
 ghost use lib.ListN.{length};
 ghost use Rattle.word.specs.Profile.{LP5523};
-ghost use Rattle.word.specs.Decode.{decodeOf};
-ghost use Rattle.word.specs.Classes.{flowOf};
-ghost use Rattle.plan.specs.Tests.{inOrder, isFault};
+ghost use Rattle.plan.specs.Tests.{inOrder};
 ghost use Rattle.disassembler.specs.Walks.{definedFrom, engineDefined, planDefined};
-
-fn is_undefined(code: u16) -> bool
-    ensures { λ r. ⌜ r ≡ isFault (flowOf (decodeOf LP5523 code)) ⌝ }
-{
-    if let Word::Undefined = decoder::decode(code) {
-        return true;
-    }
-    false
-}
 
 // The first undefined word from `first` to `last`.
 fn first_undefined(engine: u16, first: u16, last: u16, image: &[u16]) -> Verdict
@@ -31,7 +21,7 @@ fn first_undefined(engine: u16, first: u16, last: u16, image: &[u16]) -> Verdict
     let mut a = first;
     while a <= last {
         let code = image[a as usize];
-        if is_undefined(code) {
+        if is_undefined(decode(code)) {
             return Verdict::UndefinedWord {
                 engine,
                 address: Address(a),

@@ -150,7 +150,7 @@ pub(super) fn mux_move(k: Core, c: u8, memory: &[u16; 96], op: MuxMoveOp) -> Cor
 
 pub(super) fn mux_sel(mut k: Core, c: u8, output: u16) -> CoreAct
     requires { ⌜ (1 ≤ output) × (output ≤ 16) ⌝ }
-    ensures { λ r. ⌜ ((counts : List ℕ) → actOf r counts ≡ goesOn c (withMask (maskOfOutput LP5523 output) (engineOf k counts))) ⌝ }
+    ensures { λ r. ⌜ ((counts : List ℕ) → actOf r counts ≡ goesOn c (withMask (maskOfOutput output) (engineOf k counts))) ⌝ }
 {
     k.mask = 1 << (output - 1);
     goes_on(k, c)

@@ -13,7 +13,8 @@ use Rattle.text.specs.declared.Decimal.{Decimal}
 use Rattle.text.specs.declared.Decimal.the-variants as decimal
 use Rattle.text.proofs.Values.{value-pair}
 use Rattle.text.proofs.Theorems.{not-shortened, read-writes}
-use Rattle.word.specs.Field.{Range, inside}
+use Rattle.word.specs.Field.{inside}
+use Rattle.word.specs.Profile.{Range}
 use Rattle.grammar.specs.declared.Value.the-variants.{Number, Malformed, Outside}
 use Rattle.grammar.specs.Form.{Kind, number, word, decision, answers, Pair, Reading, values, readWord, held, readValue, readPair, atEnd, readForm, writeValue, writePair, continued, writeForm}
 use Rattle.grammar.specs.Theorems.{fitsKind, isEmpty, fitsAfter, fitsForm}

@@ -9,8 +9,8 @@ use borrow.Author.Tests.{leb-true, leb-false}
 use lib.Dec.{leb}
 use Rattle.text.specs.Number.{numberOf, isNumber, readNumber}
 use Rattle.text.specs.declared.Decimal.the-variants as decimal
-use Rattle.word.specs.Profile.{Profile, LP5523}
-use Rattle.word.specs.Field.{Range, inside}
+use Rattle.word.specs.Profile.{Profile, LP5523, Range}
+use Rattle.word.specs.Field.{inside}
 use Rattle.word.proofs.Fields.{above-range}
 use Rattle.grammar.specs.declared.Value.the-variants.{Number, Malformed, Outside}
 use Rattle.grammar.specs.Form.{Kind, number, word, decision, Pair, held}

@@ -15,7 +15,8 @@ use Rattle.text.specs.declared.Decimal.{Decimal}
 use Rattle.text.specs.declared.Decimal.the-variants as decimal
 use Rattle.text.proofs.Decimal as decimals
 use Rattle.text.proofs.Numerals.{read-parts}
-use Rattle.word.specs.Field.{Range, inside, _to_, upto}
+use Rattle.word.specs.Field.{inside, upto}
+use Rattle.word.specs.Profile.{Range, _to_}
 use Rattle.grammar.specs.declared.Value.{Value}
 use Rattle.grammar.specs.declared.Value.the-variants.{Number, Malformed, Outside}
 use Rattle.grammar.specs.Form.{Kind, number, word, decision, Pair, held, readWord, readValue}

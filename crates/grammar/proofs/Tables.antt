@@ -10,8 +10,7 @@ use lib.Dec.{T, eqb, leb, ltb, leb→le}
 use lib.ListN.{length, getD, take, drop, List·getD-append}
 use mir.Syntax.{w64}
 use mir.Val.{Fits}
-use Rattle.word.specs.Field.{Range, _to_}
-use Rattle.word.specs.Profile.{LP5523}
+use Rattle.word.specs.Profile.{Range, _to_, LP5523}
 use Rattle.grammar.specs.Form.{Kind, number, word, decision, answers, Pair}
 use Rattle.grammar.specs.Grammar.{OpLine, opLines, opNames, opForm, planForm}
 use Rattle.grammar.specs.Tables.{keys, names, kinds, kindAt, forms, formOf, pairs, pairAt}

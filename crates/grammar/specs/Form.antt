@@ -9,7 +9,8 @@ use Rattle.text.specs.Bytes.{ascii, equalsSign, same, valueOf, isWord, isPair}
 use Rattle.text.specs.Number.{readNumber, decimalOf}
 use Rattle.text.specs.declared.Decimal.{Decimal}
 use Rattle.text.specs.declared.Decimal.the-variants as decimal
-use Rattle.word.specs.Field.{Range, inside}
+use Rattle.word.specs.Field.{inside}
+use Rattle.word.specs.Profile.{Range}
 use Rattle.grammar.specs.declared.Value.{Value}
 use Rattle.grammar.specs.declared.Value.the-variants.{Number, Malformed, Outside}
 

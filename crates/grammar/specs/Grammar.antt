@@ -4,8 +4,8 @@ use Prim.Native.String.{String}
 use mathlib.Core.List.{List, [], _∷_, _++_, map}
 use lib.ListN.{getD}
 use Rattle.text.specs.Bytes.{ascii, space, equalsSign, split, join, valueOf}
-use Rattle.word.specs.Profile.{Profile}
-use Rattle.word.specs.Field.{Field, flag, time, byte, skip, loops, step, address, output, triggers, rangesOf, _to_, upto}
+use Rattle.word.specs.Profile.{Profile, _to_}
+use Rattle.word.specs.Field.{Field, flag, time, byte, skip, loops, step, address, output, triggers, rangesOf, upto}
 use Rattle.grammar.specs.declared.Value.{Value}
 use Rattle.grammar.specs.declared.Value.the-variants.{Number, Malformed, Outside}
 use Rattle.grammar.specs.declared.Form.{Form}

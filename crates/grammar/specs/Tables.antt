@@ -6,8 +6,8 @@ use mathlib.Core.List.{List, [], _∷_, _++_, map}
 use lib.Dec.{eqb, leb}
 use lib.ListN.{length, getD, drop}
 use Rattle.text.specs.Bytes.{ascii, space, split}
-use Rattle.word.specs.Profile.{LP5523}
-use Rattle.word.specs.Field.{Range, flag, time, byte, skip, loops, step, address, output, triggers, rangesOf, _to_}
+use Rattle.word.specs.Profile.{LP5523, Range, _to_}
+use Rattle.word.specs.Field.{flag, time, byte, skip, loops, step, address, output, triggers, rangesOf}
 use Rattle.grammar.specs.declared.Value.{Value}
 use Rattle.grammar.specs.declared.Value.the-variants.{Number, Malformed, Outside}
 use Rattle.grammar.specs.declared.Values.{Values}

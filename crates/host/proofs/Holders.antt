@@ -11,6 +11,7 @@ use Rattle.machine.specs.declared.Engine.{Engine}
 use Rattle.machine.specs.Parts.{bit}
 use Rattle.machine.specs.Outputs.{lowest, holder}
 use Rattle.machine.specs.Tick.{some}
+use Rattle.machine.proofs.RowBits.{row-bit}
 
 lowest-none : (i : ℕ) (es : List Engine) (b : ℕ) → eqb (lowest (suc i) es b) 0 ≡ not (some (λ e. bit (e .mask) b) es)
 lowest-none i [] b = refl
@@ -23,4 +24,4 @@ lowest-none i (e ∷ es) b = go (bit (e .mask) b) (lowest-none (suc i) es b)
 -- an output among D1 to D9 has its place as its row bit
 pub held-by-none : (es : List Engine) (k : ℕ) → k < 9 → eqb (holder LP5523 es k) 0 ≡ not (some (λ e. bit (e .mask) k) es)
 unfolding holder
-held-by-none es k h = rw (ne-eqb k 9 (λ e. omega arith)) (lowest-none 0 es k)
+held-by-none es k h = rw (row-bit k h) (lowest-none 0 es k)

@@ -1,6 +1,5 @@
 // What is told: the sentences of answers, and the table of the ops.
 pub mod calls;
-pub mod checker;
 pub mod filling;
 mod lines;
 pub mod ops;
@@ -10,3 +9,4 @@ pub mod shown;
 mod tables;
 pub mod templates;
 mod values;
+pub mod verdicts;

@@ -6,7 +6,8 @@ use mathlib.Core.Bool.{cond}
 use mathlib.Core.List.{List, [], _∷_}
 use lib.Bits.{bitAnd}
 use lib.Dec.{eqb}
-use Rattle.word.specs.Profile.{Profile, LP5523}
+use lib.ListN.{getD}
+use Rattle.word.specs.Profile.{Profile, outputNumbers, bitOfOutput, outputBits}
 use Rattle.word.specs.declared.Direction.{Direction}
 use Rattle.word.specs.declared.Direction.the-variants.{Up, Down}
 use Rattle.machine.specs.declared.Engine.{Engine}
@@ -15,21 +16,17 @@ use Rattle.machine.specs.declared.Effect.{Effect}
 use Rattle.machine.specs.declared.Effect.the-variants.{Keep, Put, Move}
 use Rattle.machine.specs.Parts.{bit}
 
--- The row bit of output k, counted from 0: D1..D9 are 0..8, the GPO is 9.
+-- The row bit of output k, counted from 0: D1 is 0. An output that the chip doesn't have has none.
 abbrev pub rowBit : Profile → ℕ → ℕ
-rowBit LP5523 k = cond (eqb k 9) 15 k
-
--- The row bits that are outputs: 0 to 8, and 15.
-abbrev pub outputBits : Profile → ℕ
-outputBits LP5523 = 0x81FF
+rowBit P k = bitOfOutput (getD (outputNumbers P) k 17)
 
 -- The mask that a row gives.
 abbrev pub maskOf : Profile → ℕ → ℕ
 maskOf P row = bitAnd row (outputBits P)
 
--- The mask of one output, by its selection number: 1..9 are D1..D9, 16 is the GPO.
-abbrev pub maskOfOutput : Profile → ℕ → ℕ
-maskOfOutput LP5523 k = 2 ^ (k - 1)
+-- The mask of one output, by its number in mux-sel.
+abbrev pub maskOfOutput : ℕ → ℕ
+maskOfOutput n = 2 ^ bitOfOutput n
 
 -- The lowest of the engines, the first of them counted i, whose mask has row bit b; 0 if none has.
 abbrev pub lowest : ℕ → List Engine → ℕ → ℕ

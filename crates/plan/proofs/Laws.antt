@@ -10,7 +10,7 @@ use types.Run.{OneOf, miss}
 use denote.Enum.Declared.{tagOf}
 use Rattle.word.specs.Profile.{Profile, LP5523}
 use Rattle.word.specs.Decode.{addressAt}
-use Rattle.word.specs.Classes.{flowOf, tableUseOf}
+use Rattle.word.specs.Classes.{flowOf, tableUseOf, isUndefined}
 use Rattle.word.specs.declared.Address.{Address}
 use Rattle.word.specs.declared.Flow.{Flow}
 use Rattle.word.specs.declared.Word.{Word}
@@ -22,7 +22,7 @@ use Rattle.plan.specs.declared.Verdict.{Verdict}
 use Rattle.plan.specs.declared.Verdict.the-variants.{Accept, WrongLength, OutOfOrder, CodeMeetsTable, UndefinedWord, SuccessorOutside, TableMisused, TableNotOpened, ReservedRowBit}
 use Rattle.plan.specs.Ranges.{firstOf}
 use Rattle.plan.specs.Conditions.{successorsOf}
-use Rattle.plan.specs.Tests.{ordered, inOrder, isFault, inCode, allIn, successorsInside, usesOwnTable, opensTable}
+use Rattle.plan.specs.Tests.{ordered, inOrder, inCode, allIn, successorsInside, usesOwnTable, opensTable}
 use Rattle.plan.specs.Strays.{firstOutside, isInside, strayOf}
 use Rattle.plan.specs.Passes.{isAccept, orElse, scan, wordVerdict, wordsVerdict, rowsVerdict, codeVerdict, tableVerdict}
 use Rattle.plan.proofs.Verdict.{the-type}
@@ -138,29 +138,23 @@ module _ (P : Profile) (q : EnginePlan) (i : ℕ) (image : List ℕ) where
         ∙ ap (λ (x : Bool). cond x (rowsVerdict P i image (t .0) (b .0 + 1 - t .0)) (TableNotOpened i f)) h)
 
 -- one word, by what was asked of it
-module _ (q : EnginePlan) (i a : ℕ) (w : Word) {f : Flow} (is-flow : f ≡ flowOf w) where
-  faultless : isFault f ≡ false → not (isFault (flowOf w)) ≡ true
-  faultless e = ap not (ap isFault (sym is-flow) ∙ e)
-
-  inside : {b : Bool} → successorsInside q a f ≡ b → successorsInside q a (flowOf w) ≡ b
-  inside e = ap (successorsInside q a) (sym is-flow) ∙ e
-
-  pub undefined-word : isFault f ≡ true → UndefinedWord i (addressAt a) ≡ wordVerdict q i a w
+module _ (q : EnginePlan) (i a : ℕ) (w : Word) where
+  pub undefined-word : isUndefined w ≡ true → UndefinedWord i (addressAt a) ≡ wordVerdict q i a w
   unfolding wordVerdict
-  undefined-word e = simp (ap isFault (sym is-flow) ∙ e)
+  undefined-word e = simp e
 
-  pub successor-outside : isFault f ≡ false → successorsInside q a f ≡ false → SuccessorOutside i (addressAt a) ≡ wordVerdict q i a w
-  unfolding wordVerdict
-  successor-outside e s = simp (faultless e, inside s)
+  module _ (d : isUndefined w ≡ false) where
+    pub successor-outside : successorsInside q a (flowOf w) ≡ false → SuccessorOutside i (addressAt a) ≡ wordVerdict q i a w
+    unfolding wordVerdict
+    successor-outside s = simp (d, s)
 
-  pub table-misused : isFault f ≡ false → successorsInside q a f ≡ true → usesOwnTable q (tableUseOf w) ≡ false
-      → TableMisused i (addressAt a) ≡ wordVerdict q i a w
-  unfolding wordVerdict
-  table-misused e s u = simp (faultless e, inside s, u)
+    pub table-misused : successorsInside q a (flowOf w) ≡ true → usesOwnTable q (tableUseOf w) ≡ false → TableMisused i (addressAt a) ≡ wordVerdict q i a w
+    unfolding wordVerdict
+    table-misused s u = simp (d, s, u)
 
-  pub word-fits : isFault f ≡ false → successorsInside q a f ≡ true → usesOwnTable q (tableUseOf w) ≡ true → Accept ≡ wordVerdict q i a w
-  unfolding wordVerdict
-  word-fits e s u = simp (faultless e, inside s, u)
+    pub word-fits : successorsInside q a (flowOf w) ≡ true → usesOwnTable q (tableUseOf w) ≡ true → Accept ≡ wordVerdict q i a w
+    unfolding wordVerdict
+    word-fits s u = simp (d, s, u)
 
 -- the first number outside is none exactly where all are inside
 inside-or-first : (b : Bool) (s : Stray) {c : Bool} (x : ℕ) → isInside s ≡ c → isInside (cond b s (To x)) ≡ (b && c)

@@ -6,13 +6,13 @@ use mathlib.Core.Path.{_≡_, subst}
 use native.Mathlib.Omega.{arith}
 use lib.Dec.{eqb}
 use borrow.Author.Tests.{eqb-true, eqb-false}
-use Rattle.word.specs.Profile.{Profile, LP5523}
+use Rattle.word.specs.Profile.{Profile, LP5523, upward}
 use Rattle.word.specs.declared.Address.{Address}
 use Rattle.plan.specs.declared.EnginePlan.{EnginePlan}
 use Rattle.plan.specs.declared.EnginePlan.the-variants.{Unused, Code, CodeAndTable}
 use Rattle.plan.specs.declared.Plan.{Plan}
 use Rattle.plan.specs.declared.Verdict.{Verdict}
-use Rattle.plan.specs.Ranges.{planAt, InRange, InCode, InTable, upward, addresses, codeAddresses, tableAddresses}
+use Rattle.plan.specs.Ranges.{planAt, InRange, InCode, InTable, addresses, codeAddresses, tableAddresses}
 use Rattle.plan.specs.Conditions.{AllIn}
 use Rattle.plan.specs.Check.{engineNumbers, joined}
 use Rattle.plan.specs.Theorems.{AllOf}

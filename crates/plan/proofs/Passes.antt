@@ -6,14 +6,14 @@ use mathlib.Core.Path.{_≡_, refl, sym, ap, _∙_}
 use borrow.Author.Tests.{eq-eqb, ne-eqb}
 use lib.ListN.{length, getD}
 use lib.Dec.{eqb}
-use Rattle.word.specs.Profile.{Profile, LP5523}
+use Rattle.word.specs.Profile.{Profile, LP5523, upward}
 use Rattle.word.specs.Decode.{addressAt}
 use Rattle.plan.specs.declared.EnginePlan.{EnginePlan}
 use Rattle.plan.specs.declared.EnginePlan.the-variants.{Unused, Code, CodeAndTable}
 use Rattle.plan.specs.declared.Plan.{Plan}
 use Rattle.plan.specs.declared.Verdict.{Verdict}
 use Rattle.plan.specs.declared.Verdict.the-variants.{Accept, WrongLength, OutOfOrder, CodeMeetsTable, TableNotOpened}
-use Rattle.plan.specs.Ranges.{planAt, firstOf, upward, codeAddresses, tableAddresses}
+use Rattle.plan.specs.Ranges.{planAt, firstOf, codeAddresses, tableAddresses}
 use Rattle.plan.specs.Conditions.{wordAt}
 use Rattle.plan.specs.Tests.{holds, inOrder, opensTable}
 use Rattle.plan.specs.Check.{engineNumbers, joined, ofWord, ofRow, ofEngine, firstFailing, checkOf, checkRangesOf}

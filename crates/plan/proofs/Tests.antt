@@ -9,7 +9,7 @@ use lib.Dec.{leb, ltb, eqb}
 use lib.ListN.{length, getD}
 use borrow.Author.Tests.{leb-true, ltb-true, eqb-true, le-leb, lt-ltb, eq-eqb}
 use Rattle.word.specs.Profile.{Profile, wordsOf}
-use Rattle.word.specs.Classes.{flowOf, tableUseOf}
+use Rattle.word.specs.Classes.{flowOf, tableUseOf, isUndefined}
 use Rattle.word.specs.declared.Address.{Address}
 use Rattle.word.specs.declared.TableUse.{TableUse}
 use Rattle.word.specs.declared.TableUse.the-variants.{Nothing, StartAt, EndAt, RowAt, Forward, Backward}
@@ -20,7 +20,7 @@ use Rattle.plan.specs.declared.EnginePlan.the-variants.{Unused, Code, Co
 use Rattle.plan.specs.declared.Verdict.the-variants.{Accept, WrongLength, OutOfOrder, CodeMeetsTable, UndefinedWord, SuccessorOutside, TableMisused, TableNotOpened, ReservedRowBit}
 use Rattle.plan.specs.Ranges.{enginePlans, planAt, InRange, InCode, InTable, firstOf}
 use Rattle.plan.specs.Conditions.{wordAt, Ordered, InOrder, Defined, successorsOf, AllIn, SuccessorsInside, UseInside, NoUse, UsesOwnTable, isStart, isEnd, OpensTable, reservedBits}
-use Rattle.plan.specs.Tests.{ordered, inOrder, overlap, codeMeets, meets, meetsAny, isFault, inRange, inCode, allIn, successorsInside, useInside, noUse, usesOwnTable, opensTable}
+use Rattle.plan.specs.Tests.{ordered, inOrder, overlap, codeMeets, meets, meetsAny, inRange, inCode, allIn, successorsInside, useInside, noUse, usesOwnTable, opensTable}
 use Rattle.plan.specs.Theorems.{TestsExactly}
 
 abbrev pub Exactly : Bool → Type 0 → Type 0
@@ -116,29 +116,29 @@ apart : (q : EnginePlan) (rs : List EnginePlan) → Exactly (not (meetsAny q rs)
 apart q rs = restated (all-disjoint q rs) (λ h. at-each q Unused rs (λ a c d. d, h)) (λ h i. h (suc i))
 
 -- 13
-no-fault : (w : Word) → Defined w → not (isFault (flowOf w)) ≡ true
-no-fault Rst d = refl
-no-fault (Ramp p t r n) d = refl
-no-fault (Wait p t) d = refl
-no-fault (Set n) d = refl
-no-fault (RampVar p r l s) d = refl
-no-fault (SetVar v) d = refl
-no-fault (BranchVar v s) d = refl
-no-fault (Jump o k l r) d = refl
-no-fault (Arith o v n) d = refl
-no-fault (ArithVar o v l r) d = refl
-no-fault (MuxAt o a) d = refl
-no-fault MuxClr d = refl
-no-fault (MuxSel k) d = refl
-no-fault (MuxMove o) d = refl
-no-fault (Branch c s) d = refl
-no-fault (End i z) d = refl
-no-fault Int d = refl
-no-fault (Trigger w x) d = refl
-no-fault Undefined d = absurd (d refl)
+defined-passes : (w : Word) → Defined w → not (isUndefined w) ≡ true
+defined-passes Rst d = refl
+defined-passes (Ramp p t r n) d = refl
+defined-passes (Wait p t) d = refl
+defined-passes (Set n) d = refl
+defined-passes (RampVar p r l s) d = refl
+defined-passes (SetVar v) d = refl
+defined-passes (BranchVar v s) d = refl
+defined-passes (Jump o k l r) d = refl
+defined-passes (Arith o v n) d = refl
+defined-passes (ArithVar o v l r) d = refl
+defined-passes (MuxAt o a) d = refl
+defined-passes MuxClr d = refl
+defined-passes (MuxSel k) d = refl
+defined-passes (MuxMove o) d = refl
+defined-passes (Branch c s) d = refl
+defined-passes (End i z) d = refl
+defined-passes Int d = refl
+defined-passes (Trigger w x) d = refl
+defined-passes Undefined d = absurd (d refl)
 
-defined : (w : Word) → Exactly (not (isFault (flowOf w))) (Defined w)
-defined w = (λ e u. true≢false (sym e ∙ ap (λ (x : Word). not (isFault (flowOf x))) u), no-fault w)
+defined : (w : Word) → Exactly (not (isUndefined w)) (Defined w)
+defined w = (λ e u. true≢false (sym e ∙ ap (λ (x : Word). not (isUndefined x)) u), defined-passes w)
 
 -- 14
 all-in : (f : ℕ → Bool) (R : ℕ → Type 0) → ((a : ℕ) → Exactly (f a) (R a)) → (xs : List ℕ) → Exactly (allIn f xs) (AllIn R xs)

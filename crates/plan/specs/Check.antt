@@ -3,7 +3,7 @@
 use Prim.Native.Nat.{ℕ}
 use mathlib.Core.Bool.{Bool, cond}
 use mathlib.Core.List.{List, [], _∷_, map, _++_}
-use Rattle.word.specs.Profile.{Profile, LP5523}
+use Rattle.word.specs.Profile.{Profile, upward, enginesOf}
 use Rattle.word.specs.Decode.{addressAt}
 use Rattle.plan.specs.declared.EnginePlan.{EnginePlan}
 use Rattle.plan.specs.declared.Plan.{Plan}
@@ -14,7 +14,7 @@ use Rattle.plan.specs.Tests.{holds}
 
 -- The engines that a chip has, counted from 1.
 abbrev pub engineNumbers : Profile → List ℕ
-engineNumbers LP5523 = 1 ∷ 2 ∷ 3 ∷ []
+engineNumbers P = upward 1 (enginesOf P)
 
 -- What f gives at each number of a list, in order.
 abbrev pub joined : (ℕ → List Verdict) → List ℕ → List Verdict

@@ -1,11 +1,12 @@
 -- The conditions that a plan and an image have to meet ("Listed conditions: 96 words, no case of 11 to 17"), as plain statements. Each
 -- says that its number of refusal is not given.
-use Prim.Native.Nat.{ℕ, zero, suc, _+_, _/_, _%_, _≤_, _<_}
+use Prim.Native.Nat.{ℕ, zero, suc, _+_, _-_, _≤_, _<_}
 use mathlib.Core.Bool.{Bool, true, false}
 use mathlib.Core.List.{List, [], _∷_}
 use mathlib.Core.Path.{_≡_}
+use lib.Bits.{bitAnd}
 use lib.ListN.{length, getD}
-use Rattle.word.specs.Profile.{Profile, LP5523, wordsOf}
+use Rattle.word.specs.Profile.{Profile, wordsOf, outputBits}
 use Rattle.word.specs.Decode.{decodeOf}
 use Rattle.word.specs.Classes.{flowOf, tableUseOf}
 use Rattle.word.specs.declared.Address.{Address}
@@ -116,9 +117,9 @@ OpensTable P image (Code f l) = Unit {0}
 OpensTable P image (CodeAndTable f l t b) =
     (f .0 < l .0) × (isStart (tableUseOf (wordAt P image (f .0))) ≡ true) × (isEnd (tableUseOf (wordAt P image (f .0 + 1))) ≡ true)
 
--- The bits of a row that are no output's: 9 to 14.
+-- The bits of a row that are no output's.
 abbrev pub reservedBits : Profile → ℕ → ℕ
-reservedBits LP5523 row = row / 512 % 64
+reservedBits P row = bitAnd row (0xFFFF - outputBits P)
 
 -- 17: none of them is set.
 abbrev pub RowClear : Profile → ℕ → Type 0

@@ -5,7 +5,7 @@ use mathlib.Core.List.{List}
 use lib.ListN.{getD}
 use Rattle.word.specs.Profile.{Profile}
 use Rattle.word.specs.Decode.{addressAt}
-use Rattle.word.specs.Classes.{flowOf, tableUseOf}
+use Rattle.word.specs.Classes.{flowOf, tableUseOf, isUndefined}
 use Rattle.word.specs.declared.Word.{Word}
 use Rattle.plan.specs.declared.EnginePlan.{EnginePlan}
 use Rattle.plan.specs.declared.EnginePlan.the-variants.{Unused, Code, CodeAndTable}
@@ -14,7 +14,7 @@ use Rattle.plan.specs.declared.Verdict.{Verdict}
 use Rattle.plan.specs.declared.Verdict.the-variants.{Accept, WrongLength, OutOfOrder, CodeMeetsTable, UndefinedWord, SuccessorOutside, TableMisused, TableNotOpened, ReservedRowBit}
 use Rattle.plan.specs.Ranges.{enginePlans, planAt}
 use Rattle.plan.specs.Conditions.{wordAt}
-use Rattle.plan.specs.Tests.{inOrder, meetsAny, isFault, successorsInside, usesOwnTable, opensTable, rowClear}
+use Rattle.plan.specs.Tests.{inOrder, meetsAny, successorsInside, usesOwnTable, opensTable, rowClear}
 
 abbrev pub isAccept : Verdict → Bool
 isAccept Accept = true
@@ -57,7 +57,7 @@ apartVerdict P p =
 unfoldable pub wordVerdict : EnginePlan → ℕ → ℕ → Word → Verdict
 wordVerdict q i a w =
     cond
-    (not (isFault (flowOf w)))
+    (not (isUndefined w))
     (cond (successorsInside q a (flowOf w)) (cond (usesOwnTable q (tableUseOf w)) Accept (TableMisused i (addressAt a))) (SuccessorOutside i (addressAt a)))
     (UndefinedWord i (addressAt a))
 

@@ -1,9 +1,9 @@
 -- A plan's engines and their addresses ("A plan says for each engine: unused, or first and last code address and perhaps a table's top
 -- and bottom").
-use Prim.Native.Nat.{ℕ, zero, suc, _+_, _-_, _≤_}
+use Prim.Native.Nat.{ℕ, _+_, _-_, _≤_}
 use mathlib.Core.List.{List, [], _∷_}
-use lib.ListN.{getD}
-use Rattle.word.specs.Profile.{Profile, LP5523}
+use lib.ListN.{getD, take}
+use Rattle.word.specs.Profile.{Profile, upward, enginesOf}
 use Rattle.word.specs.declared.Address.{Address}
 use Rattle.plan.specs.declared.EnginePlan.{EnginePlan}
 use Rattle.plan.specs.declared.EnginePlan.the-variants.{Unused, Code, CodeAndTable}
@@ -11,7 +11,7 @@ use Rattle.plan.specs.declared.Plan.{Plan}
 
 -- The plans of the engines that a chip has.
 abbrev pub enginePlans : Profile → Plan → List EnginePlan
-enginePlans LP5523 p = p .engine1 ∷ p .engine2 ∷ p .engine3 ∷ []
+enginePlans P p = take (enginesOf P) (p .engine1 ∷ p .engine2 ∷ p .engine3 ∷ [])
 
 -- The plan of engine i, counted from 1 as document 01 does; a chip uses no engine that it doesn't have.
 abbrev pub planAt : Profile → Plan → ℕ → EnginePlan
@@ -38,11 +38,6 @@ abbrev pub firstOf : EnginePlan → ℕ
 firstOf Unused = 0
 firstOf (Code f l) = f .0
 firstOf (CodeAndTable f l t b) = f .0
-
--- n addresses from a upward.
-abbrev pub upward : ℕ → ℕ → List ℕ
-upward a zero = []
-upward a (suc n) = a ∷ upward (a + 1) n
 
 -- The addresses from f to l, upward.
 abbrev pub addresses : Address → Address → List ℕ

@@ -6,7 +6,7 @@ use mathlib.Core.List.{List, [], _∷_}
 use lib.ListN.{length, getD}
 use lib.Dec.{leb, ltb, eqb}
 use Rattle.word.specs.Profile.{Profile, wordsOf}
-use Rattle.word.specs.Classes.{flowOf, tableUseOf}
+use Rattle.word.specs.Classes.{flowOf, tableUseOf, isUndefined}
 use Rattle.word.specs.declared.Address.{Address}
 use Rattle.word.specs.declared.Flow.{Flow}
 use Rattle.word.specs.declared.Flow.the-variants.{Next, Restart, Stop, Loop, LoopVar, Skip, Fault}
@@ -46,16 +46,6 @@ meets q (CodeAndTable f l t b) = codeMeets q t b
 abbrev pub meetsAny : EnginePlan → List EnginePlan → Bool
 meetsAny q [] = false
 meetsAny q (r ∷ rs) = meets q r || meetsAny q rs
-
--- 13
-abbrev pub isFault : Flow → Bool
-isFault Next = false
-isFault Restart = false
-isFault (Stop z) = false
-isFault (Loop c s) = false
-isFault (LoopVar v s) = false
-isFault (Skip o k l r) = false
-isFault Fault = true
 
 -- 14
 abbrev pub inRange : Address → Address → ℕ → Bool
@@ -112,7 +102,7 @@ holds P p image Accept = true
 holds P p image WrongLength = eqb (length image) (wordsOf P)
 holds P p image (OutOfOrder i) = inOrder P (planAt P p i)
 holds P p image (CodeMeetsTable i) = not (meetsAny (planAt P p i) (enginePlans P p))
-holds P p image (UndefinedWord i a) = not (isFault (flowOf (wordAt P image (a .0))))
+holds P p image (UndefinedWord i a) = not (isUndefined (wordAt P image (a .0)))
 holds P p image (SuccessorOutside i a) = successorsInside (planAt P p i) (a .0) (flowOf (wordAt P image (a .0)))
 holds P p image (TableMisused i a) = usesOwnTable (planAt P p i) (tableUseOf (wordAt P image (a .0)))
 holds P p image (TableNotOpened i a) = opensTable P image (planAt P p i)

@@ -6,8 +6,8 @@ use mathlib.Core.Path.{_≡_, refl, sym, ap, _∙_}
 use native.Mathlib.Omega.{arith}
 use lib.Dec.{leb, leb·zero}
 use borrow.Author.Tests.{leb-true, le-leb, lt-leb}
-use Rattle.word.specs.Profile.{Profile, LP5523, wordsOf, engineBits}
-use Rattle.word.specs.Field.{Range, _to_, upto, inside, rangesOf}
+use Rattle.word.specs.Profile.{Profile, LP5523, wordsOf, allEngines, Range, _to_, outputRanges}
+use Rattle.word.specs.Field.{upto, inside, rangesOf}
 use Rattle.word.specs.Answer.{Answer, success, refusal}
 use Rattle.word.specs.Table.{Operand, Line, line, none, fits, every, judged, encodeLine}
 use Rattle.word.specs.Theorems.{operandsIn, leastOf, mostOf, Between, AllWithin}
@@ -107,5 +107,8 @@ words-fit LP5523 = omega arith
 pub words-positive : (P : Profile) → 1 ≤ wordsOf P
 words-positive LP5523 = omega arith
 
-pub engines-fit : (P : Profile) → engineBits P ≤ 31
+pub engines-fit : (P : Profile) → allEngines P ≤ 31
 engines-fit LP5523 = omega arith
+
+pub outputs-fit : (P : Profile) (k : ℕ) → Between (outputRanges P) k → (1 ≤ k) × (k ≤ 127)
+outputs-fit LP5523 k h = omega arith

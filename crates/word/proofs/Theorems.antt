@@ -21,7 +21,7 @@ use Rattle.word.specs.Answer.{Answer, success, refusal}
 use Rattle.word.specs.Table.{Operand, Line, line, none, lineOf, fits, every, encodeLine, encodeOf}
 use Rattle.word.specs.Decode.{choose, stepAt, addressAt, ramps, rampVars, sums, rows, reading, isSuccess, decodeOf}
 use Rattle.word.specs.Theorems.{EncodedDecodes, OneWordPerCode, SixteenBits, DecodedEncodes, UndefinedExactly, operandsIn, operandsOf, SomeOutside, here, later, Refuses13, Refuses22, RefusesUpByZero, Succeeds, AllWithin, OperandsWithin, AddressWithin, StepWithin}
-use Rattle.word.proofs.Fields.{and-left, and-right, and-false, codeIn, parts, words-fit, words-positive, engines-fit}
+use Rattle.word.proofs.Fields.{and-left, and-right, and-false, codeIn, parts, words-fit, words-positive, engines-fit, outputs-fit}
 use Rattle.word.proofs.Rows.{before, caseAt, chosen, past, read-row}
 
 -- a case of two or three operands, from what its operands are
@@ -81,7 +81,7 @@ reads P (MuxAt MuxLdStart a) w h u = let f = words-fit P in read-row w 0x9F00 (o
 reads P (MuxAt MuxLdAddr a) w h u = let f = words-fit P in read-row w 0x9F80 (omega arith) ∙ ap (λ x. MuxAt MuxLdAddr (addressAt x)) (omega arith)
 reads P (MuxAt MuxMapAddr a) w h u = let f = words-fit P in read-row w 0xA000 (omega arith) ∙ ap (λ x. MuxAt MuxMapAddr (addressAt x)) (omega arith)
 reads P MuxClr w h u = no-operand 0x9D00 h refl
-reads P (MuxSel k) w h u = read-row w 0x9D80 (omega arith) ∙ ap MuxSel (omega arith)
+reads P (MuxSel k) w h u = let f = outputs-fit P k (h .0 .1) in read-row w 0x9D80 (omega arith) ∙ ap MuxSel (omega arith)
 reads P (MuxMove MuxMapNext) w h u = no-operand 0x9D80 h refl
 reads P (MuxMove MuxLdNext) w h u = no-operand 0x9D81 h refl
 reads P (MuxMove MuxMapPrev) w h u = no-operand 0x9DC0 h refl

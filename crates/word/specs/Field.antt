@@ -3,16 +3,7 @@ use Prim.Native.Nat.{ℕ, _+_, _-_}
 use mathlib.Core.Bool.{Bool, false, _&&_, _||_}
 use mathlib.Core.List.{List, [], _∷_}
 use lib.Dec.{leb}
-use Rattle.word.specs.Profile.{Profile, wordsOf, engineBits}
-
--- The numbers from `least` to `most`, both included.
-pub record Range : Type 0 where
-  pub least : ℕ
-  pub most : ℕ
-
-infix 70 _to_
-abbrev pub _to_ : ℕ → ℕ → Range
-a to b = record { least = a; most = b }
+use Rattle.word.specs.Profile.{Profile, Range, _to_, wordsOf, allEngines, outputRanges}
 
 abbrev pub upto : ℕ → List Range
 upto m = 0 to m ∷ []
@@ -46,7 +37,7 @@ rangesOf P loops = upto 63
 rangesOf P step = upto 127
 -- a
 rangesOf P address = upto (wordsOf P - 1)
--- k of mux-sel: D1..D9, or the GPO
-rangesOf P output = 1 to 9 ∷ 16 to 16 ∷ []
+-- k of mux-sel
+rangesOf P output = outputRanges P
 -- w and x: engines, with or without the pin, which is 32
-rangesOf P triggers = 0 to engineBits P ∷ 32 to (32 + engineBits P) ∷ []
+rangesOf P triggers = 0 to allEngines P ∷ 32 to (32 + allEngines P) ∷ []

@@ -10,8 +10,8 @@ use Rattle.word.specs.declared.Direction.the-variants.{Up}
 use Rattle.word.specs.declared.MuxAtOp.{MuxAtOp}
 use Rattle.word.specs.declared.Word.{Word}
 use Rattle.word.specs.declared.Word.the-variants.{Ramp, BranchVar, MuxAt, Branch, Undefined}
-use Rattle.word.specs.Profile.{Profile, wordsOf}
-use Rattle.word.specs.Field.{Range, rangesOf}
+use Rattle.word.specs.Profile.{Profile, wordsOf, Range}
+use Rattle.word.specs.Field.{rangesOf}
 use Rattle.word.specs.Answer.{success}
 use Rattle.word.specs.Table.{Operand, Line, line, none, lineOf, fits, encodeOf}
 use Rattle.word.specs.Decode.{decodeOf}

@@ -56,25 +56,27 @@ fn opens_table(image: &[u16], first: Address, last: Address, top: Address, botto
     is_end(use_of_word_at(image, first.0 + 1))
 }
 
-// 17: bits 9 to 14 of a row are no output's.
-fn check_row(engine: u16, at: u16, row: u16) -> Verdict
-    ensures { λ r. ⌜ r ≡ rowVerdict LP5523 engine at row ⌝ }
+// The bits of a row that are no output's: 9 to 14.
+const RESERVED: u16 = 0x7E00;
+
+// 17: none of them is set.
+fn check_row(engine: u16, address: Address, row: u16) -> Verdict
+    ensures { λ r. ⌜ r ≡ rowVerdict LP5523 engine (address .0) row ⌝ }
 {
-    if row / 512 % 64 == 0 {
+    if row & RESERVED == 0 {
         return Verdict::Accept;
     }
-    let address = Address(at);
     Verdict::ReservedRowBit { engine, address }
 }
 
 // 17, row by row upward.
-fn check_rows(engine: u16, image: &[u16], top: u16, bottom: u16) -> Verdict
-    requires { ⌜ (length (now image) ≡ 96) × (bottom < 96) ⌝ }
-    ensures { λ r. ⌜ r ≡ rowsVerdict LP5523 engine (now (image .entry)) top (bottom + 1 - top) ⌝ }
+fn check_rows(engine: u16, image: &[u16], top: Address, bottom: Address) -> Verdict
+    requires { ⌜ (length (now image) ≡ 96) × (bottom .0 < 96) ⌝ }
+    ensures { λ r. ⌜ r ≡ rowsVerdict LP5523 engine (now (image .entry)) (top .0) (bottom .0 + 1 - top .0) ⌝ }
 {
-    let mut at = top;
-    while at <= bottom {
-        let verdict = check_row(engine, at, image[at as usize]);
+    let mut at = top.0;
+    while at <= bottom.0 {
+        let verdict = check_row(engine, Address(at), image[at as usize]);
         if !is_accept(verdict) {
             return verdict;
         }
@@ -103,5 +105,5 @@ pub(super) fn check_table(q: EnginePlan, engine: u16, image: &[u16]) -> Verdict
             address: first,
         };
     }
-    check_rows(engine, image, top.0, bottom.0)
+    check_rows(engine, image, top, bottom)
 }

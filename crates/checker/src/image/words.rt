@@ -2,55 +2,46 @@
 use crate::acceptance::is_accept;
 use crate::image::classes::table_use_of;
 use crate::image::table_use::uses_own_table;
-use crate::successors::flow_of;
 use crate::successors::successors_inside;
+use decoder::decode;
+use decoder::is_undefined;
 use plan::EnginePlan;
 use plan::Verdict;
 use word::Address;
-use word::Flow;
 ghost use mathlib.Core.Bool.{true};
 ghost use mathlib.Core.Path.{_≡_};
 ghost use Prim.Native.Nat.{_+_, _-_, _<_};
 ghost use lib.ListN.{length};
 ghost use Rattle.word.specs.Profile.{LP5523};
 ghost use Rattle.word.specs.Decode.{decodeOf};
-ghost use Rattle.plan.specs.Tests.{inOrder, isFault};
+ghost use Rattle.plan.specs.Tests.{inOrder};
 ghost use Rattle.plan.specs.Passes.{wordVerdict, wordsVerdict, codeVerdict};
 
-// 13: there is no such word.
-fn is_fault(flow: Flow) -> bool
-    ensures { λ r. ⌜ r ≡ isFault flow ⌝ }
-{
-    if let Flow::Fault = flow { true } else { false }
-}
-
 // 13, 14 and 15 of one word.
-fn check_word(q: EnginePlan, engine: u16, at: u16, code: u16) -> Verdict
-    ensures { λ r. ⌜ r ≡ wordVerdict q engine at (decodeOf LP5523 code) ⌝ }
+fn check_word(q: EnginePlan, engine: u16, address: Address, code: u16) -> Verdict
+    ensures { λ r. ⌜ r ≡ wordVerdict q engine (address .0) (decodeOf LP5523 code) ⌝ }
 {
-    let decoded = decoder::decode(code);
-    let flow = flow_of(decoded);
-    let address = Address(at);
-    if is_fault(flow) {
+    let word = decode(code);
+    if is_undefined(word) {
         return Verdict::UndefinedWord { engine, address };
     }
-    if !successors_inside(q, at, flow) {
+    if !successors_inside(q, address, word) {
         return Verdict::SuccessorOutside { engine, address };
     }
-    if !uses_own_table(q, table_use_of(decoded)) {
+    if !uses_own_table(q, table_use_of(word)) {
         return Verdict::TableMisused { engine, address };
     }
     Verdict::Accept
 }
 
 // The same, word by word upward.
-fn check_words(q: EnginePlan, engine: u16, image: &[u16], first: u16, last: u16) -> Verdict
-    requires { ⌜ (length (now image) ≡ 96) × (last < 96) ⌝ }
-    ensures { λ r. ⌜ r ≡ wordsVerdict LP5523 q engine (now (image .entry)) first (last + 1 - first) ⌝ }
+fn check_words(q: EnginePlan, engine: u16, image: &[u16], first: Address, last: Address) -> Verdict
+    requires { ⌜ (length (now image) ≡ 96) × (last .0 < 96) ⌝ }
+    ensures { λ r. ⌜ r ≡ wordsVerdict LP5523 q engine (now (image .entry)) (first .0) (last .0 + 1 - first .0) ⌝ }
 {
-    let mut at = first;
-    while at <= last {
-        let verdict = check_word(q, engine, at, image[at as usize]);
+    let mut at = first.0;
+    while at <= last.0 {
+        let verdict = check_word(q, engine, Address(at), image[at as usize]);
         if !is_accept(verdict) {
             return verdict;
         }
@@ -65,12 +56,12 @@ pub(super) fn check_code(q: EnginePlan, engine: u16, image: &[u16]) -> Verdict
 {
     match q {
         EnginePlan::Unused => Verdict::Accept,
-        EnginePlan::Code { first, last } => check_words(q, engine, image, first.0, last.0),
+        EnginePlan::Code { first, last } => check_words(q, engine, image, first, last),
         EnginePlan::CodeAndTable {
             first,
             last,
             top: _,
             bottom: _,
-        } => check_words(q, engine, image, first.0, last.0),
+        } => check_words(q, engine, image, first, last),
     }
 }

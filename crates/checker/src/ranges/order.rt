@@ -3,13 +3,11 @@ use plan::EnginePlan;
 use plan::Plan;
 use plan::Verdict;
 use word::Address;
+use word::WORDS;
 ghost use mathlib.Core.Path.{_≡_};
 ghost use Rattle.word.specs.Profile.{LP5523};
 ghost use Rattle.plan.specs.Tests.{ordered, inOrder};
 ghost use Rattle.plan.specs.Passes.{orderVerdict};
-
-// Words of program memory.
-const WORDS: u16 = 96;
 
 // 11: the range is in order and in the memory.
 fn range_in_order(first: Address, last: Address) -> bool
@@ -18,7 +16,7 @@ fn range_in_order(first: Address, last: Address) -> bool
     if first.0 > last.0 {
         return false;
     }
-    last.0 < WORDS
+    (last.0 as usize) < WORDS
 }
 
 fn in_order(q: EnginePlan) -> bool

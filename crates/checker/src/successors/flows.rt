@@ -4,7 +4,7 @@ use word::Word;
 ghost use mathlib.Core.Path.{_≡_};
 ghost use Rattle.word.specs.Classes.{flowOf};
 
-pub(crate) fn flow_of(word: Word) -> Flow
+pub(super) fn flow_of(word: Word) -> Flow
     ensures { λ r. ⌜ r ≡ flowOf word ⌝ }
 {
     match word {

@@ -1,6 +1,4 @@
 // Refusals of the assembler, and of op lines.
-use super::checker;
-use super::checker::Origin;
 use super::lines;
 use super::say::Message;
 use super::say::Say;
@@ -11,6 +9,8 @@ use super::say::say_only;
 use super::say::say_two;
 use super::shown::quoted;
 use super::templates;
+use super::verdicts;
+use super::verdicts::Origin;
 use crate::texts::pieces::LINE_FEED;
 use crate::texts::pieces::after;
 use crate::texts::pieces::nth;
@@ -148,7 +148,7 @@ pub fn of_sheet(text: &[u8], read: Assembled) -> Message {
             // the checker gives the engine
             let plan = plan_of(text);
             let none = [0u16; 0];
-            checker::of_verdict(Origin::Sheet, plan, &none, checker::check_ranges(plan))
+            verdicts::of_verdict(Origin::Sheet, plan, &none, checker::check_ranges(plan))
         }
     }
 }

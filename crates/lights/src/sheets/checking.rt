@@ -4,17 +4,17 @@ use super::reading::Found;
 use super::reading::Program;
 use super::reading::missing;
 use crate::cli::names::Kind;
-use crate::sentences::checker;
-use crate::sentences::checker::Origin;
 use crate::sentences::say::right;
 use crate::sentences::templates;
+use crate::sentences::verdicts;
+use crate::sentences::verdicts::Origin;
 use plan::Plan;
 use plan::Verdict;
 
 fn judged(plan: Plan, image: &[u16]) -> Found {
     let verdict = checker::check(plan, image);
     let Verdict::Accept = verdict else {
-        return missing(checker::of_verdict(Origin::Sheet, plan, image, verdict));
+        return missing(verdicts::of_verdict(Origin::Sheet, plan, image, verdict));
     };
     Found {
         program: Program::Plan(plan),

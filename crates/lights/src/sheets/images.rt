@@ -18,10 +18,10 @@ use crate::cli::output::made;
 use crate::cli::output::tell;
 use crate::cli::output::tell_of;
 use crate::cli::status::Status;
-use crate::sentences::checker;
 use crate::sentences::say::failed;
 use crate::sentences::say::malformed;
 use crate::sentences::templates;
+use crate::sentences::verdicts;
 use crate::texts::pieces::until;
 use crate::texts::words::separator;
 use asm::Disassembled;
@@ -72,7 +72,7 @@ fn written(path: &[u8], plan: Plan, image: &[u16]) -> Status {
     let mut sheet = [0u8; LONGEST_SHEET];
     let answer = disassembler::disassemble(plan, image, &mut sheet);
     let Disassembled::Length(n) = answer else {
-        return tell_of(path, checker::of_written(plan, image, answer));
+        return tell_of(path, verdicts::of_written(plan, image, answer));
     };
     made(&sheet, n)
 }

@@ -1,14 +1,21 @@
 -- `beats::outputs::has` meets its contract.
+use Prim.Native.Nat.{ℕ}
+use mathlib.Core.Path.{refl}
+use native.Mathlib.Omega.{arith}
 use borrow.Author.Needs.{needs}
-use borrow.Author.Tests.{eq-eqb, ne-eqb}
+use Rattle.word.specs.Profile.{LP5523}
+use Rattle.plan.proofs.Laws.{via}
+use Rattle.machine.specs.Parts.{bit}
+use Rattle.machine.specs.Outputs.{rowBit}
+use Rattle.machine.proofs.RowBits.{row-bit}
 use Rattle.beats.proofs.outputs.has.Statement.{statement}
 use Rattle.beats.proofs.outputs.has.Tie as tie
 
 returns : tie.Need-returns
-returns c = rw (eq-eqb _ _ (c .if1 .taken))
+returns c = via (λ (k : ℕ). bit (c .before .args .held) (rowBit LP5523 k)) refl (c .if1 .taken)
 
 returns-2 : tie.Need-returns-2
-returns-2 c = rw (ne-eqb _ _ (c .if1 .left))
+returns-2 c = rw (row-bit (c .before .args .k) (omega arith))
 
 pub has-spec : {M : Type 1} → statement M
 has-spec = tie.close (tie.spec returns (search needs) (search needs) returns-2)

@@ -11,7 +11,6 @@ pub check-spec : {M : Type 1} → statement M
 check-spec =
     tie.close
     (tie.spec
-    (search needs)
     (λ c. wrong-length _ _ (c .if1 .taken))
     (λ c κs. tt)
     (λ c κs. tt)

@@ -27,6 +27,11 @@ branch-outside-spec =
     (tie.spec
     (search needs)
     (search needs)
-    (λ c. endless (c .before .before .before .args .q) _ _ _ (rw (c .before .before .target-of .ensures) at (c .one-outside .ensures)) (c .before .if1 .taken))
     (search needs)
-    (λ c. counted (c .before .before .before .args .q) _ _ _ (rw (c .before .before .target-of .ensures) at (c .first-outside .ensures)) (c .before .if1 .left)))
+    (λ c.
+    let c3 = c .before .before .before in
+    endless (c3 .before .args .q) _ _ _ (rw (c .before .before .target-of .ensures, c3 .first-of .ensures) at (c .one-outside .ensures)) (c .before .if1 .taken))
+    (search needs)
+    (λ c.
+    let c3 = c .before .before .before in
+    counted (c3 .before .args .q) _ _ _ (rw (c .before .before .target-of .ensures, c3 .first-of .ensures) at (c .first-outside .ensures)) (c .before .if1 .left)))

@@ -2,6 +2,7 @@
 use Prim.Native.Nat.{ℕ}
 use mathlib.Core.Path.{_≡_, sym, ap, _∙_}
 use borrow.Author.Needs.{needs}
+use Rattle.word.specs.Classes.{flowOf}
 use Rattle.word.specs.declared.Flow.{Flow}
 use Rattle.plan.specs.declared.EnginePlan.{EnginePlan}
 use Rattle.plan.specs.declared.Stray.{Stray}
@@ -21,5 +22,5 @@ successors-inside-spec =
     (search needs)
     (search needs)
     (search needs)
-    (λ c. let s = c .before .before .before .args in arm (s .q) (s .at) (s .flow) _ (c .before .before .stray-of .ensures) (c .enum-told .given .1))
-    (λ c. let s = c .before .before .before .args in arm (s .q) (s .at) (s .flow) _ (c .before .before .stray-of .ensures) (c .enum-told2 .given .1)))
+    (λ c. let s = c .before .before .before .args in arm (s .q) (s .at .0) (flowOf (s .word)) _ (c .before .before .stray-of .ensures) (c .enum-told .given .1))
+    (λ c. let s = c .before .before .before .args in arm (s .q) (s .at .0) (flowOf (s .word)) _ (c .before .before .stray-of .ensures) (c .enum-told2 .given .1)))

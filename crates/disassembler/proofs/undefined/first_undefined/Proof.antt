@@ -1,8 +1,9 @@
 -- `disassembler::undefined::first_undefined` meets its contract: the loop's invariant is that the verdict on all is the verdict on what is left.
 use Prim.Native.Nat.{_+_, _-_}
-use mathlib.Core.Path.{_≡_, refl, sym, _∙_}
+use mathlib.Core.Path.{_≡_, refl, sym, ap, _∙_}
 use native.Mathlib.Omega.{arith}
 use Rattle.word.specs.Profile.{LP5523}
+use Rattle.word.specs.Classes.{isUndefined}
 use Rattle.disassembler.specs.Walks.{definedFrom}
 use Rattle.disassembler.proofs.Defined.{undefined-here, defined-here, defined-to}
 use Rattle.disassembler.proofs.undefined.first_undefined.Statement.{statement}
@@ -25,19 +26,20 @@ first-undefined-spec =
     (λ c. omega arith)
     (λ c. omega arith)
     (λ c κs. tt)
+    (λ c κs. tt)
     (λ c.
-    let l = c .before .before .before .before in
+    let l = c .before .before .before .before .before in
     let s = l .before .before .args in
     sym
     (l .loop .inv
-    ∙ undefined-here LP5523 (s .engine) (s .image .now) (l .loop .a) (s .last) (omega arith) (sym (c .before .is-undefined .ensures) ∙ c .if1 .taken)))
+    ∙ undefined-here LP5523 (s .engine) (s .image .now) (l .loop .a) (s .last) (omega arith) (ap isUndefined (sym (c .before .before .decode .ensures)) ∙ sym (c .before .is-undefined .ensures) ∙ c .if1 .taken)))
     (λ c. omega arith)
     (λ c. omega arith)
     (λ c.
-    let l = c .before .before .before .before in
+    let l = c .before .before .before .before .before in
     let s = l .before .before .args in
     l .loop .inv
-    ∙ defined-here LP5523 (s .engine) (s .image .now) (l .loop .a) (s .last) (omega arith) (sym (c .before .is-undefined .ensures) ∙ c .if1 .left))
+    ∙ defined-here LP5523 (s .engine) (s .image .now) (l .loop .a) (s .last) (omega arith) (ap isUndefined (sym (c .before .before .decode .ensures)) ∙ sym (c .before .is-undefined .ensures) ∙ c .if1 .left))
     (λ c.
     let l = c .before in
     let s = l .before .before .args in

@@ -2,7 +2,7 @@
 use mathlib.Core.List.{[], _∷_}
 use borrow.Author.Needs.{needs}
 use native.Mathlib.Omega.{arith}
-use Rattle.word.specs.Field.{_to_}
+use Rattle.word.specs.Profile.{_to_}
 use Rattle.word.proofs.Fields.{in-none, in-range, above-range, below-range, from-least}
 use Rattle.encoder.proofs.encoder.mux_sel.Statement.{statement}
 use Rattle.encoder.proofs.encoder.mux_sel.Tie as tie

@@ -6,8 +6,8 @@ use borrow.Author.Needs.{needs}
 use Rattle.word.specs.declared.Direction.{Direction}
 use Rattle.word.specs.declared.Direction.the-variants.{Up, Down}
 use Rattle.word.specs.declared.Word.the-variants.{Ramp}
-use Rattle.word.specs.Profile.{LP5523}
-use Rattle.word.specs.Field.{_to_, upto, inside}
+use Rattle.word.specs.Profile.{LP5523, _to_}
+use Rattle.word.specs.Field.{upto, inside}
 use Rattle.word.specs.Answer.{refusal}
 use Rattle.word.specs.Table.{encodeOf}
 use Rattle.word.proofs.Fields.{and-false, from-least, under-least}

@@ -13,30 +13,26 @@ check-word-spec =
     (tie.spec
     (search needs)
     (search needs)
+    (λ c.
+    undefined-word _ _ _ _ (sym (c .before .is-undefined .ensures) ∙ c .if1 .taken)
+    ∙ ap (wordVerdict _ _ _) (c .before .before .decode .ensures))
     (search needs)
     (λ c.
     let c2 = c .before .before in let c3 = c2 .before in
-    undefined-word _ _ _ _ (c2 .flow-of .ensures) (sym (c .before .is-fault .ensures) ∙ c .if1 .taken)
-    ∙ ap (wordVerdict _ _ _) (c3 .decode .ensures))
-    (search needs)
-    (λ c.
-    let c2 = c .before .before in let c3 = c2 .before in let c4 = c3 .before in let c5 = c4 .before in
-    successor-outside _ _ _ _ (c4 .flow-of .ensures) (sym (c3 .is-fault .ensures) ∙ c2 .if1 .left)
+    successor-outside _ _ _ _ (sym (c3 .is-undefined .ensures) ∙ c2 .if1 .left)
     (failed (c .before .successors-inside .ensures) (c .if2 .taken))
-    ∙ ap (wordVerdict _ _ _) (c5 .decode .ensures))
+    ∙ ap (wordVerdict _ _ _) (c3 .before .decode .ensures))
     (search needs)
     (search needs)
     (λ c.
     let c2 = c .before .before in let c3 = c2 .before in let c4 = c3 .before in let c5 = c4 .before in let c6 = c5 .before in let c7 = c6 .before in
-    let c8 = c7 .before in let c9 = c8 .before in
-    table-misused _ _ _ _ (c7 .flow-of .ensures) (sym (c6 .is-fault .ensures) ∙ c5 .if1 .left)
+    table-misused _ _ _ _ (sym (c6 .is-undefined .ensures) ∙ c5 .if1 .left)
     (passed (c4 .successors-inside .ensures) (c3 .if2 .left))
-    (failed (c .before .uses-own-table .ensures ∙ ap (usesOwnTable (c9 .args .q)) (c2 .table-use-of .ensures)) (c .if3 .taken))
-    ∙ ap (wordVerdict _ _ _) (c8 .decode .ensures))
+    (failed (c .before .uses-own-table .ensures ∙ ap (usesOwnTable (c7 .before .args .q)) (c2 .table-use-of .ensures)) (c .if3 .taken))
+    ∙ ap (wordVerdict _ _ _) (c7 .decode .ensures))
     (λ c.
     let c2 = c .before .before in let c3 = c2 .before in let c4 = c3 .before in let c5 = c4 .before in let c6 = c5 .before in let c7 = c6 .before in
-    let c8 = c7 .before in let c9 = c8 .before in
-    word-fits _ _ _ _ (c7 .flow-of .ensures) (sym (c6 .is-fault .ensures) ∙ c5 .if1 .left)
+    word-fits _ _ _ _ (sym (c6 .is-undefined .ensures) ∙ c5 .if1 .left)
     (passed (c4 .successors-inside .ensures) (c3 .if2 .left))
-    (passed (c .before .uses-own-table .ensures ∙ ap (usesOwnTable (c9 .args .q)) (c2 .table-use-of .ensures)) (c .if3 .left))
-    ∙ ap (wordVerdict _ _ _) (c8 .decode .ensures)))
+    (passed (c .before .uses-own-table .ensures ∙ ap (usesOwnTable (c7 .before .args .q)) (c2 .table-use-of .ensures)) (c .if3 .left))
+    ∙ ap (wordVerdict _ _ _) (c7 .decode .ensures)))

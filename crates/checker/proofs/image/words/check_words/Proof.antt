@@ -9,10 +9,10 @@ use Rattle.checker.proofs.image.words.check_words.Statement.{statement}
 use Rattle.checker.proofs.image.words.check_words.Tie as tie
 
 abbrev Inv-loop : tie.InvT-loop
-Inv-loop q engine image first last at₀ at = wordsVerdict LP5523 q engine image first (last + 1 - first) ≡ wordsVerdict LP5523 q engine image at (last + 1 - at)
+Inv-loop q engine image last at₀ at = wordsVerdict LP5523 q engine image at₀ (last .0 + 1 - at₀) ≡ wordsVerdict LP5523 q engine image at (last .0 + 1 - at)
 
 abbrev μ-loop : tie.MeasureT-loop
-μ-loop q engine image first last at₀ at = last + 1 - at
+μ-loop q engine image last at₀ at = last .0 + 1 - at
 
 pub check-words-spec : {M : Type 1} → statement M
 check-words-spec =
@@ -27,13 +27,13 @@ check-words-spec =
     (λ c κs. tt)
     (λ c κs. tt)
     (λ c.
-    let c2 = c .before .before in let c4 = c2 .before .before in let c5 = c4 .before in
+    let c2 = c .before .before in let c4 = c2 .before .before in let c5 = c4 .before .before in
     sym
-    (c5 .loop .inv ∙ scan-refused _ _ _ (c4 .loop-test .taken) (c2 .check-word .ensures) (failed (c .before .is-accept .ensures) (c .if1 .taken))))
+    (c5 .loop .inv ∙ scan-refused _ _ _ (c4 .if1 .taken) (c2 .check-word .ensures) (failed (c .before .is-accept .ensures) (c .if2 .taken))))
     (λ c. omega arith)
     (λ c. omega arith)
     (λ c.
-    let c2 = c .before .before in let c4 = c2 .before .before in let c5 = c4 .before in
-    c5 .loop .inv ∙ scan-passed _ _ _ (c4 .loop-test .taken) (c2 .check-word .ensures)
-    (passed (c .before .is-accept .ensures) (c .if1 .left)))
-    (λ c. sym (c .before .loop .inv ∙ scan-end _ _ _ (c .loop-test .left))))
+    let c2 = c .before .before in let c4 = c2 .before .before in let c5 = c4 .before .before in
+    c5 .loop .inv ∙ scan-passed _ _ _ (c4 .if1 .taken) (c2 .check-word .ensures)
+    (passed (c .before .is-accept .ensures) (c .if2 .left)))
+    (λ c. sym (c .before .before .loop .inv ∙ scan-end _ _ _ (c .if1 .left))))

@@ -128,7 +128,7 @@ fn range_of(q: EnginePlan) -> Range {
 // 14: where the word can step to.
 fn of_stray(engine: u32, q: EnginePlan, address: Address, w: Word) -> Say {
     let r = range_of(q);
-    match checker::stray_of(q, address.0, checker::flow_of(w)) {
+    match checker::stray_of(q, address, w) {
         Stray::Inside => say_three(templates::LEAVES, engine, r.first, r.last),
         Stray::To(to) => Say {
             template: templates::STEP_OUTSIDE,
