@@ -9,7 +9,7 @@ use native.Mathlib.Omega.{arith}
 use Rattle.text.specs.Bytes.{ascii}
 use Rattle.word.specs.Profile.{Profile, LP5523, wordsOf, _to_}
 use Rattle.word.specs.Field.{address, inside, rangesOf}
-use Rattle.word.specs.Decode.{addressAt}
+use Rattle.word.specs.Steps.{addressAt}
 use Rattle.word.specs.declared.Address.{Address}
 use Rattle.plan.specs.declared.EnginePlan.{EnginePlan}
 use Rattle.plan.specs.declared.EnginePlan.the-variants.{Unused, Code, CodeAndTable}

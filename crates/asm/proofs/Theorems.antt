@@ -7,6 +7,7 @@ use native.Mathlib.Omega.{arith}
 use borrow.Author.Tests.{eq-eqb, le-leb}
 use lib.Dec.{eqb, leb}
 use lib.ListN.{length, getD}
+use Rattle.plan.specs.Verdict.{isAccept}
 use Rattle.text.specs.Bytes.{lineFeed, split}
 use Rattle.text.proofs.Theorems.{joins-split}
 use Rattle.word.specs.Profile.{Profile, LP5523, wordsOf}
@@ -17,7 +18,6 @@ use Rattle.plan.specs.declared.Verdict.{Verdict}
 use Rattle.plan.specs.declared.Verdict.the-variants.{Accept}
 use Rattle.plan.specs.Ranges.{enginePlans, planAt, InCode}
 use Rattle.plan.specs.Conditions.{InOrder}
-use Rattle.plan.specs.Passes.{isAccept}
 use Rattle.plan.proofs.Laws.{is-accept}
 use Rattle.op_lines.proofs.Theorems.{line-again, code-again, reads-defined}
 use Rattle.asm.specs.declared.Disassembled.{Disassembled}

@@ -5,13 +5,14 @@ use mathlib.Core.List.{List, [], _∷_, map, _++_}
 use mathlib.Core.Logic.{_↔_, Iff·trans}
 use mathlib.Core.Path.{_≡_, refl, sym, ap, subst}
 use Rattle.word.specs.Profile.{Profile}
-use Rattle.word.specs.Decode.{addressAt}
+use Rattle.word.specs.Steps.{addressAt}
 use Rattle.plan.specs.declared.EnginePlan.{EnginePlan}
 use Rattle.plan.specs.declared.Plan.{Plan}
 use Rattle.plan.specs.declared.Verdict.{Verdict}
 use Rattle.plan.specs.declared.Verdict.the-variants.{Accept, OutOfOrder, CodeMeetsTable, UndefinedWord}
 use Rattle.plan.specs.Ranges.{planAt, InCode, codeAddresses}
-use Rattle.plan.specs.Conditions.{wordAt, InOrder, Apart, Defined, AllIn, Condition}
+use Rattle.word.specs.Decode.{wordAt}
+use Rattle.plan.specs.Conditions.{InOrder, Apart, Defined, AllIn, Condition}
 use Rattle.plan.specs.Tests.{holds}
 use Rattle.plan.specs.Check.{engineNumbers, joined, firstFailing, checkRangesOf}
 use Rattle.plan.specs.Theorems.{AllOf}

@@ -9,7 +9,7 @@ use Rattle.plan.specs.declared.Plan.{Plan}
 use Rattle.plan.specs.declared.Verdict.the-variants.{OutOfOrder, CodeMeetsTable, UndefinedWord}
 use Rattle.plan.specs.Ranges.{planAt, InCode}
 use Rattle.plan.specs.Conditions.{Condition}
-use Rattle.word.specs.Decode.{addressAt}
+use Rattle.word.specs.Steps.{addressAt}
 use Rattle.asm.specs.declared.Disassembled.the-variants.{Length}
 use Rattle.asm.specs.Places.{formAt, lineOf}
 use Rattle.asm.specs.Reading.{program, refused-at, readSheet, assembleOf}

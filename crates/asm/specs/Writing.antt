@@ -5,9 +5,10 @@ use mathlib.Core.Bool.{cond}
 use mathlib.Core.List.{List, [], _∷_, _++_, map}
 use lib.Dec.{leb}
 use lib.ListN.{length}
+use Rattle.plan.specs.Verdict.{isAccept}
 use Rattle.text.specs.Bytes.{lineFeed}
 use Rattle.word.specs.Profile.{Profile}
-use Rattle.word.specs.Decode.{addressAt}
+use Rattle.word.specs.Steps.{addressAt}
 use Rattle.plan.specs.declared.EnginePlan.{EnginePlan}
 use Rattle.plan.specs.declared.Plan.{Plan}
 use Rattle.plan.specs.declared.Verdict.{Verdict}
@@ -15,7 +16,6 @@ use Rattle.plan.specs.declared.Verdict.the-variants.{WrongLength, OutOfOrder, C
 use Rattle.plan.specs.Ranges.{enginePlans, planAt, codeAddresses}
 use Rattle.plan.specs.Tests.{holds}
 use Rattle.plan.specs.Check.{engineNumbers, joined, firstFailing}
-use Rattle.plan.specs.Passes.{isAccept}
 use Rattle.grammar.specs.declared.Form.{Form}
 use Rattle.grammar.specs.declared.Form.the-variants.{Op, Engine1, Engine2, Engine3, Row, Spare}
 use Rattle.grammar.specs.Grammar.{writeLine}

@@ -10,7 +10,7 @@ use Rattle.machine.specs.Tick.{stopped, withPulse}
 use Rattle.beats.specs.declared.Cores.{Cores}
 use Rattle.beats.specs.declared.CoresRan.{CoresRan}
 use Rattle.beats.specs.declared.Span.{Span}
-use Rattle.beats.specs.Parts.{Fixed, Lent, lent, fixedOf, lentOf, chipOf, spanned}
+use Rattle.beats.specs.internal.Parts.{Fixed, Lent, lent, fixedOf, lentOf, chipOf, spanned}
 use Rattle.beats.specs.Spans.{withPulseTaken, noBeat, spanOf}
 
 -- what is lent of a chip, from what the code took of it

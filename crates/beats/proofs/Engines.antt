@@ -13,7 +13,7 @@ use Rattle.machine.specs.Parts.{bit, withPending, withEngines}
 use Rattle.machine.specs.Triggers.{receives}
 use Rattle.beats.specs.declared.Cores.{Cores}
 use Rattle.engine_core.specs.Core.{engineOf}
-use Rattle.beats.specs.Parts.{outputOf, levelOf, fixedOf, lentOf, chipOf}
+use Rattle.beats.specs.internal.Parts.{outputOf, levelOf, fixedOf, lentOf, chipOf}
 
 pub three : {a b c a′ b′ c′ : Engine} (m : Chip) → a ≡ a′ → b ≡ b′ → c ≡ c′ → withEngines (a ∷ b ∷ c ∷ []) m ≡ withEngines (a′ ∷ b′ ∷ c′ ∷ []) m
 three {a} {b} {c} {a′} {b′} {c′} m p q r = ap₂ (λ (x : Engine) (xs : List Engine). withEngines (x ∷ xs) m) p (ap₂ (λ (x y : Engine). x ∷ y ∷ []) q r)

@@ -24,8 +24,8 @@ use Rattle.machine.proofs.Safety.{turn-acts, turn-rests}
 use Rattle.plan.proofs.Laws.{by-test, and-left, and-right}
 use Rattle.engine_core.specs.Core.{engineOf}
 use Rattle.beats.specs.declared.Cores.{Cores}
-use Rattle.beats.specs.Parts.{Fixed, Lent, chipOf}
-use Rattle.beats.specs.Idle.{leftOf, waitLeft, idles, allIdle, idled, allIdled}
+use Rattle.beats.specs.internal.Parts.{Fixed, Lent, chipOf}
+use Rattle.beats.specs.internal.Idle.{leftOf, waitLeft, idles, allIdle, idled, allIdled}
 use Rattle.beats.proofs.TurnOf.{applied-alone, three-turns}
 
 -- a wait that goes on

@@ -11,7 +11,7 @@ use Rattle.machine.specs.declared.Effect.{Effect}
 use Rattle.machine.specs.declared.Effect.the-variants.{Keep}
 use Rattle.machine.specs.Parts.{bit, each}
 use Rattle.machine.specs.Outputs.{rowBit, holder, outputAfter, affected}
-use Rattle.beats.specs.Parts.{outputOf, levelAfter, levelsAfter}
+use Rattle.beats.specs.internal.Parts.{outputOf, levelAfter, levelsAfter}
 
 pub same : {A : Type 0} (b : Bool) (x : A) → cond b x x ≡ x
 same true x = refl

@@ -28,8 +28,9 @@ use Rattle.engine_core.proofs.Three.{three}
 use Rattle.beats.specs.declared.CoresTicked.{CoresTicked}
 use Rattle.beats.specs.declared.CoresRan.{CoresRan}
 use Rattle.beats.specs.declared.Span.{Span}
-use Rattle.beats.specs.Parts.{Fixed, Lent, chipOf, tickedOf, spanned}
-use Rattle.beats.specs.Spans.{withPulseTaken, noBeat, oneBeatMore, spanOf, tickedFrom}
+use Rattle.beats.specs.internal.Parts.{Fixed, Lent, chipOf, tickedOf, spanned}
+use Rattle.beats.specs.Spans.{withPulseTaken, noBeat, oneBeatMore, spanOf}
+use Rattle.beats.specs.internal.Ticks.{tickedFrom}
 use Rattle.beats.proofs.Levels.{each-none}
 use Rattle.beats.proofs.TurnOf.{three-turns}
 

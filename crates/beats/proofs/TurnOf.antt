@@ -23,7 +23,7 @@ use Rattle.machine.specs.Tick.{turns}
 use Rattle.machine.proofs.Safety.{turn-acts, turn-rests}
 use Rattle.plan.proofs.Laws.{by-test}
 use Rattle.engine.specs.Act.{rests}
-use Rattle.beats.specs.Parts.{outputOf, levelsAfter}
+use Rattle.beats.specs.internal.Parts.{outputOf, levelsAfter}
 use Rattle.beats.proofs.Levels.{same, each-none, Holds, outputs-by-levels}
 
 keeps-output : (P : Profile) (es : List Engine) (i k : ℕ) (o : Output) → outputAfter P es i Keep k o ≡ o

@@ -1,12 +1,9 @@
 -- Beats one after another, and what a beat and a run take from them.
 use Prim.Native.Nat.{ℕ, zero, suc}
 use mathlib.Core.Bool.{Bool, false, not, cond, _&&_}
-use mathlib.Core.List.{map}
-use lib.Dec.{eqb}
 use Rattle.word.specs.Profile.{LP5523}
 use Rattle.machine.specs.declared.Chip.{Chip}
 use Rattle.machine.specs.declared.Outcome.the-variants.{Success}
-use Rattle.machine.specs.declared.Ticked.{Ticked}
 use Rattle.machine.specs.Tick.{stopped, withPulse, tick}
 use Rattle.machine.specs.Run.{quiet, oneMore, beginning}
 use Rattle.beats.specs.declared.Span.{Span}
@@ -25,7 +22,3 @@ oneBeatMore s = record { ran = oneMore LP5523 (s .ran); pin = tick LP5523 false 
 unfoldable pub spanOf : ℕ → Span → Span
 spanOf zero s = s
 spanOf (suc n) s = cond (quiet (s .ran .chip)) s (spanOf n (oneBeatMore s))
-
--- The beat that a span of one beat at most was: an engine that finished a word counts one.
-abbrev pub tickedFrom : Span → Ticked
-tickedFrom s = record { chip = s .ran .chip; pin = s .pin; ended = map (λ (n : ℕ). eqb n 1) (s .ran .words) }

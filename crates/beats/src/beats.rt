@@ -11,7 +11,7 @@ ghost use mathlib.Core.Bool.{false, _||_};
 ghost use mathlib.Core.Path.{_≡_};
 ghost use Rattle.word.specs.Profile.{LP5523};
 ghost use Rattle.machine.specs.Tick.{turns};
-ghost use Rattle.beats.specs.Parts.{Fixed, lent, chipOf, tickedOf};
+ghost use Rattle.beats.specs.internal.Parts.{Fixed, lent, chipOf, tickedOf};
 
 pub(super) fn any(a: bool, b: bool, c: bool) -> bool
     ensures { λ r. ⌜ r ≡ (a || (b || (c || false))) ⌝ }

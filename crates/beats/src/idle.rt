@@ -9,8 +9,8 @@ ghost use mathlib.Core.List.{List};
 ghost use mathlib.Core.Path.{_≡_};
 ghost use Prim.Native.Nat.{ℕ};
 ghost use Rattle.engine_core.specs.Core.{engineOf};
-ghost use Rattle.beats.specs.Parts.{Fixed, Lent, chipOf};
-ghost use Rattle.beats.specs.Idle.{leftOf, waitLeft, idles, allIdle, idled, allIdled};
+ghost use Rattle.beats.specs.internal.Parts.{Fixed, Lent, chipOf};
+ghost use Rattle.beats.specs.internal.Idle.{leftOf, waitLeft, idles, allIdle, idled, allIdled};
 
 // The beats of a wait that are left after this one; 0 for all else.
 fn left_of(progress: Progress) -> u16

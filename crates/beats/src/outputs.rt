@@ -8,7 +8,7 @@ ghost use lib.ListN.{length};
 ghost use Rattle.word.specs.Profile.{LP5523};
 ghost use Rattle.machine.specs.Parts.{bit};
 ghost use Rattle.machine.specs.Outputs.{rowBit, moved, affected};
-ghost use Rattle.beats.specs.Parts.{outputOf, levelAfter, levelsAfter};
+ghost use Rattle.beats.specs.internal.Parts.{outputOf, levelAfter, levelsAfter};
 
 // The row bits of the outputs that an engine holds, by its own mask and the masks of those before it.
 pub(super) fn held_by(mask: u16, before: u16) -> u16

@@ -10,7 +10,7 @@ ghost use Rattle.machine.specs.Parts.{each, withPending, withEngines};
 ghost use Rattle.machine.specs.Triggers.{receives, toPin};
 ghost use Rattle.machine.specs.Tick.{withPulse};
 ghost use Rattle.engine_core.specs.Core.{engineOf};
-ghost use Rattle.beats.specs.Parts.{Fixed, Lent, chipOf};
+ghost use Rattle.beats.specs.internal.Parts.{Fixed, Lent, chipOf};
 
 // The bit of the external trigger pin.
 const PIN: u16 = 32;

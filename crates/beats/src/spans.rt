@@ -7,7 +7,7 @@ use crate::CoresRan;
 ghost use mathlib.Core.Bool.{cond};
 ghost use mathlib.Core.Path.{_≡_};
 ghost use Prim.Native.Nat.{_+_, _<_};
-ghost use Rattle.beats.specs.Parts.{Fixed, lent, chipOf, spanned};
+ghost use Rattle.beats.specs.internal.Parts.{Fixed, lent, chipOf, spanned};
 ghost use Rattle.beats.specs.Spans.{noBeat, spanOf};
 
 fn one_more(words: u32, ended: bool) -> u32

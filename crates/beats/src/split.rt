@@ -9,7 +9,7 @@ ghost use mathlib.Core.Path.{_≡_};
 ghost use Prim.Native.Nat.{_<_};
 ghost use Rattle.word.specs.Profile.{LP5523};
 ghost use Rattle.machine.specs.Parts.{engineAt};
-ghost use Rattle.beats.specs.Parts.{outputOf, levelOf, fixedOf, lent, lentOf, chipOf};
+ghost use Rattle.beats.specs.internal.Parts.{outputOf, levelOf, fixedOf, lent, lentOf, chipOf};
 
 pub(super) fn levels_of(outputs: [Output; 10]) -> [u8; 10]
     ensures { λ r. ⌜ r ≡ map levelOf outputs ⌝ }

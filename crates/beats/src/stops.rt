@@ -10,7 +10,7 @@ ghost use Prim.Native.Nat.{ℕ};
 ghost use Rattle.machine.specs.Tick.{loads, stopped};
 ghost use Rattle.machine.specs.Run.{quiet};
 ghost use Rattle.engine_core.specs.Core.{engineOf};
-ghost use Rattle.beats.specs.Parts.{Fixed, Lent, chipOf};
+ghost use Rattle.beats.specs.internal.Parts.{Fixed, Lent, chipOf};
 
 fn loads(k: Core) -> bool
     ensures { λ r. ⌜ ((counts : List ℕ) → r ≡ loads (engineOf k counts)) ⌝ }

@@ -10,7 +10,7 @@ ghost use mathlib.Core.Path.{_≡_};
 ghost use Prim.Native.Nat.{ℕ};
 ghost use Rattle.word.specs.Profile.{LP5523};
 ghost use Rattle.machine.specs.Turn.{turn};
-ghost use Rattle.beats.specs.Parts.{Fixed, lent, chipOf, turnedOf};
+ghost use Rattle.beats.specs.internal.Parts.{Fixed, lent, chipOf, turnedOf};
 
 pub(super) fn turn_one(
     k: Cores,

@@ -19,7 +19,7 @@ ghost use lib.ListN.{length};
 ghost use Rattle.word.specs.Profile.{LP5523};
 ghost use Rattle.plan.specs.Tests.{inOrder};
 ghost use Rattle.plan.specs.Check.{checkOf};
-ghost use Rattle.plan.specs.Passes.{engineVerdict, enginesVerdict};
+ghost use Rattle.plan.specs.internal.Passes.{engineVerdict, enginesVerdict};
 
 fn check_engine(q: EnginePlan, engine: u16, image: &[u16]) -> Verdict
     requires { ⌜ (length (now image) ≡ 96) × (inOrder LP5523 q ≡ true) ⌝ }

@@ -7,7 +7,7 @@ use borrow.Author.Tests.{eq-eqb, ne-eqb}
 use lib.Dec.{eqb}
 use lib.ListN.{length}
 use Rattle.word.specs.Profile.{Profile, LP5523, upward}
-use Rattle.word.specs.Decode.{addressAt}
+use Rattle.word.specs.Steps.{addressAt}
 use Rattle.word.specs.Classes.{isUndefined}
 use Rattle.plan.specs.declared.EnginePlan.{EnginePlan}
 use Rattle.plan.specs.declared.EnginePlan.the-variants.{Unused, Code, CodeAndTable}
@@ -15,10 +15,10 @@ use Rattle.plan.specs.declared.Plan.{Plan}
 use Rattle.plan.specs.declared.Verdict.{Verdict}
 use Rattle.plan.specs.declared.Verdict.the-variants.{Accept, WrongLength, OutOfOrder, CodeMeetsTable, UndefinedWord}
 use Rattle.plan.specs.Ranges.{planAt, codeAddresses}
-use Rattle.plan.specs.Conditions.{wordAt}
+use Rattle.word.specs.Decode.{wordAt}
 use Rattle.plan.specs.Tests.{holds, inOrder}
 use Rattle.plan.specs.Check.{engineNumbers, firstFailing, checkRangesOf}
-use Rattle.plan.specs.Passes.{orElse}
+use Rattle.plan.specs.internal.Passes.{orElse}
 use Rattle.plan.proofs.Laws.{scan-refused, scan-passed, scan-end}
 use Rattle.plan.proofs.Passes.{append, three, scanned}
 use Rattle.plan.proofs.Tests.{tests-exactly}

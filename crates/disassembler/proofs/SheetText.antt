@@ -9,6 +9,7 @@ use types.Run.{OneOf, miss}
 use denote.Enum.Declared.{tagOf}
 use lib.ListN.{length, getD, drop, drop-of-length-le}
 use lib.Seq.{drop-cons}
+use Rattle.plan.specs.Verdict.{isAccept}
 use Rattle.text.specs.Bytes.{lineFeed, space, join}
 use Rattle.word.specs.Profile.{Profile, LP5523}
 use Rattle.plan.specs.declared.EnginePlan.{EnginePlan}
@@ -18,7 +19,6 @@ use Rattle.plan.specs.declared.Verdict.{Verdict}
 use Rattle.plan.specs.declared.Verdict.the-variants.{Accept}
 use Rattle.plan.specs.Ranges.{enginePlans}
 use Rattle.plan.specs.Tests.{inCode}
-use Rattle.plan.specs.Passes.{isAccept}
 use Rattle.grammar.specs.declared.Form.{Form}
 use Rattle.grammar.specs.declared.Form.the-variants.{Op, Engine1, Engine2, Engine3, Row, Spare}
 use Rattle.grammar.proofs.Form.{the-type}

@@ -3,7 +3,7 @@ use Prim.Native.Nat.{ℕ, _+_, _-_}
 use mathlib.Core.Bool.{cond, not}
 use mathlib.Core.List.{List}
 use Rattle.word.specs.Profile.{Profile}
-use Rattle.word.specs.Decode.{addressAt}
+use Rattle.word.specs.Steps.{addressAt}
 use Rattle.word.specs.Classes.{isUndefined}
 use Rattle.plan.specs.declared.EnginePlan.{EnginePlan}
 use Rattle.plan.specs.declared.EnginePlan.the-variants.{Unused, Code, CodeAndTable}
@@ -11,8 +11,8 @@ use Rattle.plan.specs.declared.Plan.{Plan}
 use Rattle.plan.specs.declared.Verdict.{Verdict}
 use Rattle.plan.specs.declared.Verdict.the-variants.{Accept, UndefinedWord}
 use Rattle.plan.specs.Ranges.{planAt}
-use Rattle.plan.specs.Conditions.{wordAt}
-use Rattle.plan.specs.Passes.{orElse, scan}
+use Rattle.word.specs.Decode.{wordAt}
+use Rattle.plan.specs.internal.Passes.{orElse, scan}
 use Rattle.grammar.specs.declared.Form.{Form}
 use Rattle.grammar.specs.declared.Form.the-variants.{Op, Engine1, Engine2, Engine3, Row, Spare}
 

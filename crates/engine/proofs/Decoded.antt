@@ -5,13 +5,12 @@ use mathlib.Core.Path.{_≡_, refl, ap, _∙_}
 use native.Mathlib.Omega.{arith}
 use lib.ListN.{length, List·getD-eq-default}
 use Rattle.word.specs.Profile.{LP5523}
-use Rattle.word.specs.Decode.{reading, decodeOf}
+use Rattle.word.specs.Decode.{reading, decodeOf, wordAt}
 use Rattle.word.specs.declared.Direction.the-variants.{Up, Down}
 use Rattle.word.specs.declared.Word.{Word}
 use Rattle.word.specs.declared.Word.the-variants.{Rst, Ramp, Wait, Set, RampVar, SetVar, BranchVar, Jump, Arith, ArithVar, MuxAt, MuxClr, MuxSel, MuxMove, Branch, End, Int, Trigger, Undefined}
 use Rattle.word.proofs.Theorems.{operands-within}
-use Rattle.machine.specs.Turn.{fetched}
-use Rattle.engine.specs.Operands.{Small}
+use Rattle.engine.specs.internal.Operands.{Small}
 
 pub small : (x : ℕ) (w : Word) → decodeOf LP5523 x ≡ w → Small w
 small x Rst q = tt
@@ -39,5 +38,5 @@ zero-is-rst : decodeOf LP5523 0 ≡ Rst
 unfolding decodeOf reading
 zero-is-rst = refl
 
-pub past : (memory : List ℕ) (a : ℕ) → length memory ≡ 96 → 96 ≤ a → fetched LP5523 memory a ≡ Rst
+pub past : (memory : List ℕ) (a : ℕ) → length memory ≡ 96 → 96 ≤ a → wordAt LP5523 memory a ≡ Rst
 past memory a n h = ap (decodeOf LP5523) (List·getD-eq-default memory 0 {n = a} (omega arith)) ∙ zero-is-rst

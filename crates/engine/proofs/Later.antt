@@ -11,7 +11,7 @@ use types.Run.{OneOf}
 use Rattle.word.specs.declared.Word.{Word}
 use Rattle.word.specs.declared.Word.the-variants.{Rst, Ramp, Wait, Set, RampVar, SetVar, BranchVar, Jump, Arith, ArithVar, MuxAt, MuxClr, MuxSel, MuxMove, Branch, End, Int, Trigger, Undefined}
 use Rattle.plan.proofs.Laws.{by-test, and-left, and-right}
-use Rattle.engine.specs.Operands.{From}
+use Rattle.engine.specs.internal.Operands.{From}
 
 outside : ℕ → ℕ → ℕ → Bool
 outside a b k = ltb k a || leb b k

@@ -1,4 +1,4 @@
--- What a beat gives, put together from what the code computes of it. There is no rule here.
+-- What a beat gives, put together from what the code computes of it.
 use Prim.Native.Nat.{ℕ}
 use mathlib.Core.Bool.{false}
 use mathlib.Core.List.{List}

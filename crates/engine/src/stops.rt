@@ -14,7 +14,7 @@ ghost use mathlib.Core.List.{List};
 ghost use mathlib.Core.Path.{_≡_};
 ghost use Prim.Native.Nat.{ℕ};
 ghost use Rattle.word.specs.Profile.{LP5523};
-ghost use Rattle.word.specs.Decode.{stepAt};
+ghost use Rattle.word.specs.Steps.{stepAt};
 ghost use Rattle.machine.specs.declared.Exec.the-variants.{Hold};
 ghost use Rattle.machine.specs.declared.Effect.the-variants.{Keep};
 ghost use Rattle.machine.specs.Parts.{zeroCounts, withExec, withInterrupt, withLoops};

@@ -29,7 +29,7 @@ ghost use Rattle.word.specs.Profile.{LP5523};
 ghost use Rattle.machine.specs.Words.{begins};
 ghost use Rattle.engine_core.specs.Core.{engineOf};
 ghost use Rattle.engine.specs.Act.{actOf};
-ghost use Rattle.engine.specs.Operands.{Small, From};
+ghost use Rattle.engine.specs.internal.Operands.{Small, From};
 
 // Branches, end, int, triggers and undefined words.
 fn begins_control(k: Core, c: u8, counts: &mut [u8; 96], at: usize, word: Word) -> CoreAct

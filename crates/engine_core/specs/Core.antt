@@ -1,4 +1,4 @@
--- An engine put together from its core and its branch counts. There is no rule here.
+-- An engine put together from its core and its branch counts.
 use Prim.Native.Nat.{ℕ}
 use mathlib.Core.List.{List}
 use Rattle.machine.specs.declared.Engine.{Engine}

@@ -11,7 +11,7 @@ use Rattle.machine.specs.declared.Register.the-variants.{Control, Modes, Output
 use Rattle.machine.specs.Registers.{between, registerAt}
 use Rattle.machine.specs.Burst.{isUnlisted}
 use Rattle.machine.proofs.Common.{by-cond}
-use Rattle.host.specs.Places.{Exists}
+use Rattle.host.specs.internal.Places.{Exists}
 
 -- an address that is not from f to l, and one that is
 outside : (f l a : ℕ) → (f ≤ a → l < a) → between f l a ≡ false

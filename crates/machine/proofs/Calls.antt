@@ -7,7 +7,7 @@ use lib.Dec.{leb, ltb}
 use lib.ListN.{getD, set}
 use borrow.Author.Tests.{leb-false}
 use Rattle.word.specs.Profile.{Profile, wordsOf, enginesOf}
-use Rattle.word.specs.Decode.{addressAt}
+use Rattle.word.specs.Steps.{addressAt}
 use Rattle.machine.specs.declared.Mode.{Mode}
 use Rattle.machine.specs.declared.Exec.{Exec}
 use Rattle.machine.specs.declared.Engine.{Engine}

@@ -15,7 +15,8 @@ use Rattle.plan.specs.declared.EnginePlan.{EnginePlan}
 use Rattle.plan.specs.declared.EnginePlan.the-variants.{Unused, Code, CodeAndTable}
 use Rattle.plan.specs.declared.Plan.{Plan}
 use Rattle.plan.specs.Ranges.{planAt, firstOf, InCode}
-use Rattle.plan.specs.Conditions.{wordAt, InOrder, Defined, successorsOf, AllIn, UsesOwnTable, isStart, isEnd, OpensTable, Accepted}
+use Rattle.word.specs.Decode.{wordAt}
+use Rattle.plan.specs.Conditions.{InOrder, Defined, successorsOf, AllIn, UsesOwnTable, isStart, isEnd, OpensTable, Accepted}
 
 -- An engine's plan as numbers; those that it doesn't have are 0.
 abbrev pub isUsed : EnginePlan → Bool

@@ -2,7 +2,8 @@
 use Prim.Native.Nat.{ℕ, zero, suc}
 use mathlib.Core.Path.{refl}
 use Rattle.word.specs.Profile.{LP5523}
-use Rattle.word.specs.Decode.{decodeOf, reading, addressAt}
+use Rattle.word.specs.Decode.{decodeOf, reading}
+use Rattle.word.specs.Steps.{addressAt}
 use Rattle.word.specs.Field.{inside}
 use Rattle.plan.specs.Ranges.{planAt}
 use Rattle.plan.specs.Examples.{workedPlan, tablePlan}

@@ -20,7 +20,7 @@ use Rattle.word.specs.declared.Word.the-variants.{Rst, Ramp, Wait, Set, RampVar
 use Rattle.word.specs.Classes.{flowOf, tableUseOf}
 use Rattle.plan.specs.declared.EnginePlan.{EnginePlan}
 use Rattle.plan.specs.Ranges.{firstOf}
-use Rattle.plan.specs.Conditions.{wordAt}
+use Rattle.word.specs.Decode.{wordAt}
 use Rattle.machine.specs.declared.Mode.{Mode}
 use Rattle.machine.specs.declared.Mode.the-variants.{Run}
 use Rattle.machine.specs.declared.Exec.{Exec}

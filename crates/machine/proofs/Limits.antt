@@ -7,7 +7,7 @@ use lib.Dec.{leb, ltb, eqb}
 use lib.ListN.{getD}
 use borrow.Author.Tests.{leb-false, ltb-true}
 use Rattle.word.specs.Profile.{Profile, LP5523, wordsOf, enginesOf, pagesOf}
-use Rattle.word.specs.Decode.{addressAt, stepAt}
+use Rattle.word.specs.Steps.{addressAt, stepAt}
 use Rattle.word.specs.declared.Address.{Address}
 use Rattle.word.specs.declared.TableUse.{TableUse}
 use Rattle.word.specs.declared.TableUse.the-variants.{Nothing, StartAt, EndAt, RowAt, Forward, Backward}

@@ -8,7 +8,8 @@ use lib.Bits.{bitAnd}
 use lib.Dec.{leb, eqb}
 use lib.ListN.{getD}
 use Rattle.word.specs.Profile.{Profile, wordsOf}
-use Rattle.word.specs.Decode.{decodeOf, stepAt}
+use Rattle.word.specs.Decode.{decodeOf}
+use Rattle.word.specs.Steps.{stepAt}
 use Rattle.word.specs.Classes.{useAt, useMove}
 use Rattle.word.specs.declared.Step.{Step}
 use Rattle.word.specs.declared.Address.{Address}

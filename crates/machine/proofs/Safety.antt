@@ -14,7 +14,8 @@ use Rattle.plan.specs.declared.EnginePlan.{EnginePlan}
 use Rattle.plan.specs.declared.EnginePlan.the-variants.{Unused, Code, CodeAndTable}
 use Rattle.plan.specs.declared.Plan.{Plan}
 use Rattle.plan.specs.Ranges.{planAt, firstOf, InCode}
-use Rattle.plan.specs.Conditions.{wordAt, Defined}
+use Rattle.word.specs.Decode.{wordAt}
+use Rattle.plan.specs.Conditions.{Defined}
 use Rattle.machine.specs.declared.Mode.the-variants.{Disabled, Run}
 use Rattle.machine.specs.declared.Progress.{Progress}
 use Rattle.machine.specs.declared.Engine.{Engine}

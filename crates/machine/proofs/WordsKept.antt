@@ -20,11 +20,12 @@ use Rattle.word.specs.declared.TableUse.{TableUse}
 use Rattle.word.specs.declared.TableUse.the-variants.{Nothing, StartAt, EndAt, RowAt, Forward, Backward}
 use Rattle.word.specs.declared.Word.{Word}
 use Rattle.word.specs.declared.Word.the-variants.{Rst, Ramp, Wait, Set, RampVar, SetVar, BranchVar, Jump, Arith, ArithVar, MuxAt, MuxClr, MuxSel, MuxMove, Branch, End, Int, Trigger, Undefined}
-use Rattle.word.specs.Decode.{decodeOf, stepAt}
+use Rattle.word.specs.Decode.{decodeOf, wordAt}
+use Rattle.word.specs.Steps.{stepAt}
 use Rattle.word.specs.Classes.{flowOf, tableUseOf, useAt, useMove, mapsAt, mapsMove}
 use Rattle.plan.specs.declared.EnginePlan.{EnginePlan}
 use Rattle.plan.specs.Ranges.{firstOf}
-use Rattle.plan.specs.Conditions.{wordAt, successorsOf, AllIn, UsesOwnTable, isStart, isEnd}
+use Rattle.plan.specs.Conditions.{successorsOf, AllIn, UsesOwnTable, isStart, isEnd}
 use Rattle.machine.specs.declared.Exec.{Exec}
 use Rattle.machine.specs.declared.Progress.{Progress}
 use Rattle.machine.specs.declared.Progress.the-variants.{BetweenWords, Waiting, Ramping, Triggering}
@@ -39,7 +40,7 @@ use Rattle.machine.specs.Branches.{branches}
 use Rattle.machine.specs.Triggers.{triggers}
 use Rattle.machine.specs.TablePointers.{pointed, points}
 use Rattle.machine.specs.Words.{stops, begins}
-use Rattle.machine.specs.Turn.{addressOf, returned, fetched, starts, beatOf}
+use Rattle.machine.specs.Turn.{addressOf, returned, starts, beatOf}
 use Rattle.plan.proofs.Laws.{by-test}
 use Rattle.machine.proofs.Common.{by-cond, words-most, or-false-left, all-alike}
 use Rattle.machine.proofs.Closed.{hasTable, topOf, bottomOf, start-top, end-bottom, row-inside, SoundWord, Closed}
@@ -302,8 +303,8 @@ module _ (P : Profile) (q : EnginePlan) (image : List ℕ) (R : ℕ → Type 0) 
   no-return = rw (lt-ltb (addressOf (e .start) (e .pc)) (wordsOf P) (omega (arith, same-address, below)))
 
   -- What it fetches is the image's word.
-  pub fetched-word : (m : Chip) → ((a : ℕ) → a < wordsOf P → getD (m .memory) a 0 ≡ getD image a 0) → fetched P (m .memory) (addressOf (e .start) (e .pc)) ≡ word
-  fetched-word m h = ap (fetched P (m .memory)) same-address ∙ ap (decodeOf P) (h here below)
+  pub fetched-word : (m : Chip) → ((a : ℕ) → a < wordsOf P → getD (m .memory) a 0 ≡ getD image a 0) → wordAt P (m .memory) (addressOf (e .start) (e .pc)) ≡ word
+  fetched-word m h = ap (wordAt P (m .memory)) same-address ∙ ap (decodeOf P) (h here below)
 
   in-progress : {p : Progress} → e .progress ≡ p → Under p word
   in-progress i = subst (λ (p : Progress). Under p word) i (K .under)
@@ -313,7 +314,7 @@ module _ (P : Profile) (q : EnginePlan) (image : List ℕ) (R : ℕ → Type 0) 
   unfolding beatOf
   beat-fine m h BetweenWords i =
       subst (λ (u : Engine). Fine (starts P (m .c) (m .d) (m .memory) u)) (sym no-return)
-      (begins-fine m (fetched P (m .memory) (addressOf (e .start) (e .pc))) (sym (fetched-word m h)) (subst (SoundWord q R here) (sym (fetched-word m h)) good))
+      (begins-fine m (wordAt P (m .memory) (addressOf (e .start) (e .pc))) (sym (fetched-word m h)) (subst (SoundWord q R here) (sym (fetched-word m h)) good))
   beat-fine m h (Waiting n) i = waits-fine (m .c) n (in-progress i)
   beat-fine m h (Ramping d p l n) i = ramps-fine (m .c) d p l n (in-progress i)
   beat-fine m h (Triggering w x) i = triggers-fine (m .c) w x (in-progress i)

@@ -6,7 +6,8 @@ use mathlib.Core.Path.{_≡_}
 use lib.ListN.{getD, set, replicate}
 use Rattle.word.specs.Profile.{LP5523}
 use Rattle.word.specs.Table.{encodeOf}
-use Rattle.word.specs.Decode.{decodeOf, stepAt, addressAt}
+use Rattle.word.specs.Decode.{decodeOf}
+use Rattle.word.specs.Steps.{stepAt, addressAt}
 use Rattle.word.specs.Classes.{flowOf}
 use Rattle.word.specs.declared.Direction.the-variants.{Up}
 use Rattle.word.specs.declared.MuxAtOp.{MuxAtOp}

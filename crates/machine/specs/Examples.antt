@@ -4,7 +4,7 @@ use Prim.Native.Nat.{ℕ}
 use mathlib.Core.Bool.{true, false}
 use mathlib.Core.List.{List, [], _∷_}
 use Rattle.word.specs.Profile.{LP5523}
-use Rattle.word.specs.Decode.{addressAt}
+use Rattle.word.specs.Steps.{addressAt}
 use Rattle.plan.specs.Examples.{workedPlan, workedImage, tablePlan, tableImage}
 use Rattle.machine.specs.declared.Mode.the-variants.{Run}
 use Rattle.machine.specs.declared.Exec.the-variants.{Free}

@@ -1,11 +1,11 @@
--- The parts of the state, and one of them changed at a time. There is no rule here.
+-- The parts of the state, and one of them changed at a time.
 use Prim.Native.Nat.{ℕ, suc, _/_, _%_, _^_}
 use mathlib.Core.Bool.{Bool, false}
 use mathlib.Core.List.{List, [], _∷_}
 use lib.Dec.{eqb}
 use lib.ListN.{getD, replicate}
 use Rattle.word.specs.Profile.{Profile, wordsOf}
-use Rattle.word.specs.Decode.{stepAt, addressAt}
+use Rattle.word.specs.Steps.{stepAt, addressAt}
 use Rattle.word.specs.declared.Step.{Step}
 use Rattle.word.specs.declared.Address.{Address}
 use Rattle.machine.specs.declared.Mode.{Mode}

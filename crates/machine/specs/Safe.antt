@@ -15,7 +15,8 @@ use Rattle.machine.specs.declared.Pointers.{Pointers}
 use Rattle.machine.specs.declared.Engine.{Engine}
 use Rattle.machine.specs.declared.Chip.{Chip}
 use Rattle.machine.specs.Parts.{engineAt}
-use Rattle.machine.specs.Turn.{midWord, fetches, addressOf, returned, fetched, turn}
+use Rattle.word.specs.Decode.{wordAt}
+use Rattle.machine.specs.Turn.{midWord, fetches, addressOf, returned, turn}
 use Rattle.machine.specs.Trace.{Seen}
 
 -- The address of the word that an engine acts on: of the word in progress, or of the one that it fetches.
@@ -55,7 +56,7 @@ TableSafe P p ts m =
 -- An unused engine has no range, so it never fetches.
 pub record FetchSafe (P : Profile) (q : EnginePlan) (m : Chip) (e : Engine) : Type 0 where
   pub inside : InCode q (addressOf (e .start) (e .pc))
-  pub isDefined : Defined (fetched P (m .memory) (addressOf (e .start) (e .pc)))
+  pub isDefined : Defined (wordAt P (m .memory) (addressOf (e .start) (e .pc)))
 
 -- One turn, after the turns ts.
 pub record TurnSafe (P : Profile) (p : Plan) (ts : List Seen) (t : Seen) : Type 0 where

@@ -4,7 +4,7 @@ use mathlib.Core.Bool.{false, cond}
 use lib.Dec.{eqb}
 use lib.ListN.{getD, set}
 use Rattle.word.specs.Profile.{Profile}
-use Rattle.word.specs.Decode.{addressAt, stepAt}
+use Rattle.word.specs.Steps.{addressAt, stepAt}
 use Rattle.machine.specs.declared.Mode.{Mode}
 use Rattle.machine.specs.declared.Mode.the-variants.{Disabled, Load, Run, Halt}
 use Rattle.machine.specs.declared.Progress.the-variants.{BetweenWords}

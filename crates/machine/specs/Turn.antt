@@ -6,7 +6,8 @@ use mathlib.Core.List.{List}
 use lib.Dec.{ltb}
 use lib.ListN.{getD, set}
 use Rattle.word.specs.Profile.{Profile, wordsOf}
-use Rattle.word.specs.Decode.{decodeOf, stepAt}
+use Rattle.word.specs.Decode.{wordAt}
+use Rattle.word.specs.Steps.{stepAt}
 use Rattle.word.specs.declared.Word.{Word}
 use Rattle.word.specs.declared.Step.{Step}
 use Rattle.word.specs.declared.Address.{Address}
@@ -59,13 +60,9 @@ addressOf start pc = start .0 + pc .0
 abbrev pub returned : Profile → Engine → Engine
 returned P e = cond (ltb (addressOf (e .start) (e .pc)) (wordsOf P)) e (withPc (stepAt 0) e)
 
--- The word at an address; past the memory it is 0.
-abbrev pub fetched : Profile → List ℕ → ℕ → Word
-fetched P memory a = decodeOf P (getD memory a 0)
-
 -- The first beat of the word that engine e fetches, with C, D and the memory given.
 abbrev pub starts : Profile → ℕ → ℕ → List ℕ → Engine → Act
-starts P c d memory e = begins P c d memory e (addressOf (e .start) (e .pc)) (fetched P memory (addressOf (e .start) (e .pc)))
+starts P c d memory e = begins P c d memory e (addressOf (e .start) (e .pc)) (wordAt P memory (addressOf (e .start) (e .pc)))
 
 -- A beat of engine e, by its word in progress. It sees C, D and the memory, and nothing else of the chip.
 unfoldable pub beatOf : Profile → ℕ → ℕ → List ℕ → Engine → Progress → Act

@@ -2,7 +2,7 @@
 -- one, rst and end included. Settings 01 and 11 then become 00").
 use Prim.Native.Nat.{ℕ, _+_, _%_}
 use mathlib.Core.Bool.{true, false}
-use Rattle.word.specs.Decode.{stepAt}
+use Rattle.word.specs.Steps.{stepAt}
 use Rattle.word.specs.declared.Step.{Step}
 use Rattle.machine.specs.declared.Exec.{Exec}
 use Rattle.machine.specs.declared.Exec.the-variants.{Hold, Step as StepOnce, Free, Once}

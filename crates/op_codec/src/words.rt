@@ -10,7 +10,7 @@ use word::MuxMoveOp;
 use word::Step;
 use word::Word;
 ghost use mathlib.Core.Path.{_≡_};
-ghost use Rattle.word.specs.Decode.{stepAt, addressAt};
+ghost use Rattle.word.specs.Steps.{stepAt, addressAt};
 ghost use Rattle.word.specs.declared.Word.the-variants.{Ramp, RampVar, Jump, Arith, ArithVar, MuxAt, BranchVar, Branch};
 ghost use Rattle.op_lines.specs.Words.{directionOf, wordOf};
 

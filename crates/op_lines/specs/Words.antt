@@ -4,7 +4,7 @@ use mathlib.Core.Bool.{cond}
 use mathlib.Core.List.{List, [], _∷_}
 use lib.Dec.{eqb}
 use lib.ListN.{getD}
-use Rattle.word.specs.Decode.{stepAt, addressAt}
+use Rattle.word.specs.Steps.{stepAt, addressAt}
 use Rattle.word.specs.declared.Direction.{Direction}
 use Rattle.word.specs.declared.Direction.the-variants.{Up, Down}
 use Rattle.word.specs.declared.JumpOp.the-variants.{Jne, Jl, Jge, Je}

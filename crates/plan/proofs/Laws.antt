@@ -8,8 +8,9 @@ use borrow.Author.Tests.{ltb-true, not-true, not-false}
 use lib.Dec.{leb, ltb}
 use types.Run.{OneOf, miss}
 use denote.Enum.Declared.{tagOf}
+use Rattle.plan.specs.Verdict.{isAccept}
 use Rattle.word.specs.Profile.{Profile, LP5523}
-use Rattle.word.specs.Decode.{addressAt}
+use Rattle.word.specs.Steps.{addressAt}
 use Rattle.word.specs.Classes.{flowOf, tableUseOf, isUndefined}
 use Rattle.word.specs.declared.Address.{Address}
 use Rattle.word.specs.declared.Flow.{Flow}
@@ -23,8 +24,8 @@ use Rattle.plan.specs.declared.Verdict.the-variants.{Accept, WrongLength
 use Rattle.plan.specs.Ranges.{firstOf}
 use Rattle.plan.specs.Conditions.{successorsOf}
 use Rattle.plan.specs.Tests.{ordered, inOrder, inCode, allIn, successorsInside, usesOwnTable, opensTable}
-use Rattle.plan.specs.Strays.{firstOutside, isInside, strayOf}
-use Rattle.plan.specs.Passes.{isAccept, orElse, scan, wordVerdict, wordsVerdict, rowsVerdict, codeVerdict, tableVerdict}
+use Rattle.plan.specs.Strays.{firstOutside, strayOf}
+use Rattle.plan.specs.internal.Passes.{orElse, scan, wordVerdict, wordsVerdict, rowsVerdict, codeVerdict, tableVerdict, isInside}
 use Rattle.plan.proofs.Verdict.{the-type}
 
 -- what an arm of a match gives, of the value that is known there

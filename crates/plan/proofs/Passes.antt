@@ -6,18 +6,19 @@ use mathlib.Core.Path.{_≡_, refl, sym, ap, _∙_}
 use borrow.Author.Tests.{eq-eqb, ne-eqb}
 use lib.ListN.{length, getD}
 use lib.Dec.{eqb}
+use Rattle.plan.specs.Verdict.{isAccept}
 use Rattle.word.specs.Profile.{Profile, LP5523, upward}
-use Rattle.word.specs.Decode.{addressAt}
+use Rattle.word.specs.Steps.{addressAt}
 use Rattle.plan.specs.declared.EnginePlan.{EnginePlan}
 use Rattle.plan.specs.declared.EnginePlan.the-variants.{Unused, Code, CodeAndTable}
 use Rattle.plan.specs.declared.Plan.{Plan}
 use Rattle.plan.specs.declared.Verdict.{Verdict}
 use Rattle.plan.specs.declared.Verdict.the-variants.{Accept, WrongLength, OutOfOrder, CodeMeetsTable, TableNotOpened}
 use Rattle.plan.specs.Ranges.{planAt, firstOf, codeAddresses, tableAddresses}
-use Rattle.plan.specs.Conditions.{wordAt}
+use Rattle.word.specs.Decode.{wordAt}
 use Rattle.plan.specs.Tests.{holds, inOrder, opensTable}
 use Rattle.plan.specs.Check.{engineNumbers, joined, ofWord, ofRow, ofEngine, firstFailing, checkOf, checkRangesOf}
-use Rattle.plan.specs.Passes.{isAccept, orElse, scan, orderVerdict, apartVerdict, wordVerdict, wordsVerdict, rowVerdict, rowsVerdict, codeVerdict, tableVerdict, engineVerdict, enginesVerdict}
+use Rattle.plan.specs.internal.Passes.{orElse, scan, orderVerdict, apartVerdict, wordVerdict, wordsVerdict, rowVerdict, rowsVerdict, codeVerdict, tableVerdict, engineVerdict, enginesVerdict}
 use Rattle.plan.proofs.Laws.{by-test, is-accept, or-accept, or-refused}
 
 -- the first failing of two lists

@@ -19,7 +19,8 @@ use Rattle.plan.specs.declared.EnginePlan.{EnginePlan}
 use Rattle.plan.specs.declared.EnginePlan.the-variants.{Unused, Code, CodeAndTable}
 use Rattle.plan.specs.declared.Verdict.the-variants.{Accept, WrongLength, OutOfOrder, CodeMeetsTable, UndefinedWord, SuccessorOutside, TableMisused, TableNotOpened, ReservedRowBit}
 use Rattle.plan.specs.Ranges.{enginePlans, planAt, InRange, InCode, InTable, firstOf}
-use Rattle.plan.specs.Conditions.{wordAt, Ordered, InOrder, Defined, successorsOf, AllIn, SuccessorsInside, UseInside, NoUse, UsesOwnTable, isStart, isEnd, OpensTable, reservedBits}
+use Rattle.word.specs.Decode.{wordAt}
+use Rattle.plan.specs.Conditions.{Ordered, InOrder, Defined, successorsOf, AllIn, SuccessorsInside, UseInside, NoUse, UsesOwnTable, isStart, isEnd, OpensTable, reservedBits}
 use Rattle.plan.specs.Tests.{ordered, inOrder, overlap, codeMeets, meets, meetsAny, inRange, inCode, allIn, successorsInside, useInside, noUse, usesOwnTable, opensTable}
 use Rattle.plan.specs.Theorems.{TestsExactly}
 

@@ -7,14 +7,15 @@ use mathlib.Core.Path.{_≡_, refl, sym, subst, _∙_}
 use lib.ListN.{getD}
 use Rattle.word.specs.Profile.{Profile}
 use Rattle.word.specs.Classes.{tableUseOf}
-use Rattle.word.specs.Decode.{addressAt}
+use Rattle.word.specs.Steps.{addressAt}
 use Rattle.plan.specs.declared.EnginePlan.{EnginePlan}
 use Rattle.plan.specs.declared.EnginePlan.the-variants.{Unused}
 use Rattle.plan.specs.declared.Plan.{Plan}
 use Rattle.plan.specs.declared.Verdict.{Verdict}
 use Rattle.plan.specs.declared.Verdict.the-variants.{OutOfOrder, CodeMeetsTable, TableNotOpened}
 use Rattle.plan.specs.Ranges.{planAt, InCode, InTable, firstOf, codeAddresses, tableAddresses}
-use Rattle.plan.specs.Conditions.{wordAt, InOrder, Apart, Defined, AllIn, SuccessorsInside, UsesOwnTable, OpensTable, RowClear, Accepted, Condition}
+use Rattle.word.specs.Decode.{wordAt}
+use Rattle.plan.specs.Conditions.{InOrder, Apart, Defined, AllIn, SuccessorsInside, UsesOwnTable, OpensTable, RowClear, Accepted, Condition}
 use Rattle.plan.specs.Tests.{holds}
 use Rattle.plan.specs.Check.{engineNumbers, joined, ofWord, ofRow, ofEngine, verdictsOf, checkOf}
 use Rattle.plan.specs.Theorems.{AcceptsExactly, AllOf, Located, RefusesFirst}

@@ -7,7 +7,7 @@ use mathlib.Core.Path.{_≡_}
 use lib.Bits.{bitAnd}
 use lib.ListN.{length, getD}
 use Rattle.word.specs.Profile.{Profile, wordsOf, outputBits}
-use Rattle.word.specs.Decode.{decodeOf}
+use Rattle.word.specs.Decode.{wordAt}
 use Rattle.word.specs.Classes.{flowOf, tableUseOf}
 use Rattle.word.specs.declared.Address.{Address}
 use Rattle.word.specs.declared.Flow.{Flow}
@@ -22,10 +22,6 @@ use Rattle.plan.specs.declared.Plan.{Plan}
 use Rattle.plan.specs.declared.Verdict.{Verdict}
 use Rattle.plan.specs.declared.Verdict.the-variants.{Accept, WrongLength, OutOfOrder, CodeMeetsTable, UndefinedWord, SuccessorOutside, TableMisused, TableNotOpened, ReservedRowBit}
 use Rattle.plan.specs.Ranges.{planAt, InCode, InTable, firstOf}
-
--- The word at address a of an image.
-abbrev pub wordAt : Profile → List ℕ → ℕ → Word
-wordAt P image a = decodeOf P (getD image a 0)
 
 -- 9: the image has as many words as the chip.
 abbrev pub Complete : Profile → List ℕ → Type 0

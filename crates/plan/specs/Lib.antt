@@ -4,6 +4,6 @@ pub mod Conditions
 pub mod Tests
 pub mod Strays
 pub mod Check
-pub mod Passes
+pub mod internal
 pub mod Theorems
 pub mod Examples

@@ -17,7 +17,3 @@ firstOutside f (x ∷ xs) = cond (f x) (firstOutside f xs) (To x)
 
 unfoldable pub strayOf : EnginePlan → ℕ → Flow → Stray
 strayOf q a w = firstOutside (inCode q) (successorsOf (firstOf q) a w)
-
-abbrev pub isInside : Stray → Bool
-isInside Inside = true
-isInside (To a) = false

@@ -1,5 +1,5 @@
--- Each condition as a test. That a test is true exactly where its condition holds is what specs/Theorems.antt states; nothing here has to
--- be believed.
+-- Each condition as a test, for the checker's definition. `TestsExactly` in specs/Theorems.antt states that a test is true exactly where
+-- its condition holds.
 use Prim.Native.Nat.{ℕ, _+_}
 use mathlib.Core.Bool.{Bool, true, false, not, _&&_, _||_}
 use mathlib.Core.List.{List, [], _∷_}
@@ -18,7 +18,8 @@ use Rattle.plan.specs.declared.Plan.{Plan}
 use Rattle.plan.specs.declared.Verdict.{Verdict}
 use Rattle.plan.specs.declared.Verdict.the-variants.{Accept, WrongLength, OutOfOrder, CodeMeetsTable, UndefinedWord, SuccessorOutside, TableMisused, TableNotOpened, ReservedRowBit}
 use Rattle.plan.specs.Ranges.{enginePlans, planAt, firstOf}
-use Rattle.plan.specs.Conditions.{wordAt, successorsOf, isStart, isEnd, reservedBits}
+use Rattle.word.specs.Decode.{wordAt}
+use Rattle.plan.specs.Conditions.{successorsOf, isStart, isEnd, reservedBits}
 
 -- 11
 abbrev pub ordered : Profile → Address → Address → Bool

@@ -10,7 +10,7 @@ use lib.ListN.{length, getD, drop, drop-of-length-le}
 use lib.Seq.{drop-cons}
 use Rattle.text.specs.Number.{isDigit, allDigits, numberFrom, numberOf, isNumber, readNumber}
 use Rattle.text.specs.declared.Decimal.the-variants.{Number, Malformed, Outside}
-use Rattle.text_bytes.specs.Digits.{tooLarge, scan}
+use Rattle.text_bytes.specs.internal.Digits.{tooLarge, scan}
 use Rattle.text_bytes.specs.declared.decimals.Digits.{Digits}
 use Rattle.text_bytes.specs.declared.decimals.Digits.the-variants.{Upto, Broken}
 

@@ -2,7 +2,7 @@
 use text::Decimal;
 ghost use mathlib.Core.Path.{_≡_};
 ghost use Rattle.text.specs.Number.{readNumber};
-ghost use Rattle.text_bytes.specs.Digits.{scan};
+ghost use Rattle.text_bytes.specs.internal.Digits.{scan};
 
 const DIGIT_ZERO: u8 = 48;
 

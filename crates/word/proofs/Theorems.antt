@@ -19,7 +19,8 @@ use Rattle.word.specs.Profile.{Profile}
 use Rattle.word.specs.Field.{inside}
 use Rattle.word.specs.Answer.{Answer, success, refusal}
 use Rattle.word.specs.Table.{Operand, Line, line, none, lineOf, fits, every, encodeLine, encodeOf}
-use Rattle.word.specs.Decode.{choose, stepAt, addressAt, ramps, rampVars, sums, rows, reading, isSuccess, decodeOf}
+use Rattle.word.specs.Decode.{choose, ramps, rampVars, sums, rows, reading, isSuccess, decodeOf}
+use Rattle.word.specs.Steps.{stepAt, addressAt}
 use Rattle.word.specs.Theorems.{EncodedDecodes, OneWordPerCode, SixteenBits, DecodedEncodes, UndefinedExactly, operandsIn, operandsOf, SomeOutside, here, later, Refuses13, Refuses22, RefusesUpByZero, Succeeds, AllWithin, OperandsWithin, AddressWithin, StepWithin}
 use Rattle.word.proofs.Fields.{and-left, and-right, and-false, codeIn, parts, words-fit, words-positive, engines-fit, outputs-fit}
 use Rattle.word.proofs.Rows.{before, caseAt, chosen, past, read-row}

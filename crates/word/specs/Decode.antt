@@ -1,12 +1,11 @@
 -- What a word is: the case that its place in the table promises, its operands read from their bits, kept where it encodes to the word
 -- again, and otherwise Undefined. So reserved bits and gaps need no rule of their own.
--- That this is the table read backwards, and nothing else, is what specs/Theorems.antt states; nothing here has to be believed.
+-- That this is the table read backwards, and nothing else, is what specs/Theorems.antt states.
 use Prim.Native.Nat.{ℕ, _/_, _%_}
 use mathlib.Core.Bool.{Bool, cond, _&&_}
 use mathlib.Core.List.{List, [], _∷_}
 use lib.Dec.{ltb, eqb}
-use Rattle.word.specs.declared.Step.{Step}
-use Rattle.word.specs.declared.Address.{Address}
+use lib.ListN.{getD}
 use Rattle.word.specs.declared.Direction.the-variants.{Up, Down}
 use Rattle.word.specs.declared.JumpOp.the-variants.{Jne, Jl, Jge, Je}
 use Rattle.word.specs.declared.ArithOp.the-variants.{Ld, Add, Sub}
@@ -16,6 +15,7 @@ use Rattle.word.specs.declared.MuxMoveOp.the-variants.{MuxMapNext, MuxLd
 use Rattle.word.specs.declared.Word.{Word}
 use Rattle.word.specs.declared.Word.the-variants.{Rst, Ramp, Wait, Set, RampVar, SetVar, BranchVar, Jump, Arith, ArithVar, MuxAt, MuxClr, MuxSel, MuxMove, Branch, End, Int, Trigger, Undefined}
 use Rattle.word.specs.Profile.{Profile}
+use Rattle.word.specs.Steps.{stepAt, addressAt}
 use Rattle.word.specs.Answer.{Answer}
 use Rattle.word.specs.Table.{encodeOf}
 
@@ -32,12 +32,6 @@ i below n = record { limit = n; case = i }
 abbrev pub choose : ℕ → List Row → Word
 choose k [] = Undefined
 choose k (r ∷ rs) = cond (ltb k (r .limit)) (r .case) (choose k rs)
-
-abbrev pub stepAt : ℕ → Step
-stepAt n = record { 0 = n }
-
-abbrev pub addressAt : ℕ → Address
-addressAt n = record { 0 = n }
 
 -- Wait and ramp, by the sign and the count.
 abbrev pub ramps : ℕ → List Row
@@ -102,3 +96,7 @@ isSuccess r w = eqb (r .number) 0 && eqb (r .code) w
 
 unfoldable pub decodeOf : Profile → ℕ → Word
 decodeOf P w = cond (isSuccess (encodeOf P (reading w)) w) (reading w) Undefined
+
+-- The word at an address of an image or of the memory; past the end it is 0.
+abbrev pub wordAt : Profile → List ℕ → ℕ → Word
+wordAt P image a = decodeOf P (getD image a 0)

@@ -11,9 +11,10 @@ ghost use Prim.Native.Nat.{_+_, _-_, _<_};
 ghost use lib.ListN.{length};
 ghost use Rattle.word.specs.Profile.{LP5523};
 ghost use Rattle.word.specs.Classes.{tableUseOf};
-ghost use Rattle.plan.specs.Conditions.{wordAt, isStart, isEnd};
+ghost use Rattle.word.specs.Decode.{wordAt};
+ghost use Rattle.plan.specs.Conditions.{isStart, isEnd};
 ghost use Rattle.plan.specs.Tests.{inOrder, opensTable};
-ghost use Rattle.plan.specs.Passes.{rowVerdict, rowsVerdict, tableVerdict};
+ghost use Rattle.plan.specs.internal.Passes.{rowVerdict, rowsVerdict, tableVerdict};
 
 fn is_start(usage: TableUse) -> bool
     ensures { λ r. ⌜ r ≡ isStart usage ⌝ }

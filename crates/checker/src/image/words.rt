@@ -15,7 +15,7 @@ ghost use lib.ListN.{length};
 ghost use Rattle.word.specs.Profile.{LP5523};
 ghost use Rattle.word.specs.Decode.{decodeOf};
 ghost use Rattle.plan.specs.Tests.{inOrder};
-ghost use Rattle.plan.specs.Passes.{wordVerdict, wordsVerdict, codeVerdict};
+ghost use Rattle.plan.specs.internal.Passes.{wordVerdict, wordsVerdict, codeVerdict};
 
 // 13, 14 and 15 of one word.
 fn check_word(q: EnginePlan, engine: u16, address: Address, code: u16) -> Verdict

@@ -6,7 +6,7 @@ use word::Address;
 ghost use mathlib.Core.Path.{_≡_};
 ghost use Rattle.word.specs.Profile.{LP5523};
 ghost use Rattle.plan.specs.Tests.{overlap, codeMeets, meets};
-ghost use Rattle.plan.specs.Passes.{meetsSome, apartVerdict};
+ghost use Rattle.plan.specs.internal.Passes.{meetsSome, apartVerdict};
 
 // 12: both ranges have addresses, and neither lies beyond the other.
 fn ranges_meet(first: Address, last: Address, top: Address, bottom: Address) -> bool

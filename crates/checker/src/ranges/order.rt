@@ -7,7 +7,7 @@ use word::WORDS;
 ghost use mathlib.Core.Path.{_≡_};
 ghost use Rattle.word.specs.Profile.{LP5523};
 ghost use Rattle.plan.specs.Tests.{ordered, inOrder};
-ghost use Rattle.plan.specs.Passes.{orderVerdict};
+ghost use Rattle.plan.specs.internal.Passes.{orderVerdict};
 
 // 11: the range is in order and in the memory.
 fn range_in_order(first: Address, last: Address) -> bool

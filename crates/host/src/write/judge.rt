@@ -17,7 +17,7 @@ ghost use Rattle.machine.specs.declared.Outcome.the-variants.{Success, OutsideR
 ghost use Rattle.machine.specs.Parts.{bit, zeroEngine};
 ghost use Rattle.machine.specs.Outputs.{holder};
 ghost use Rattle.machine.specs.Judged.{inUse, loadRefused, memoryInUse, judged};
-ghost use Rattle.host.specs.Places.{Exists};
+ghost use Rattle.host.specs.internal.Places.{Exists};
 
 // 00h: bit 7 is reserved.
 fn judge_control(byte: u8) -> Outcome

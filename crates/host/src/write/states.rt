@@ -10,7 +10,7 @@ ghost use mathlib.Core.Bool.{false};
 ghost use mathlib.Core.Path.{_≡_};
 ghost use Prim.Native.Nat.{_<_};
 ghost use Rattle.word.specs.Profile.{LP5523};
-ghost use Rattle.word.specs.Decode.{stepAt};
+ghost use Rattle.word.specs.Steps.{stepAt};
 ghost use Rattle.machine.specs.declared.Progress.the-variants.{BetweenWords};
 ghost use Rattle.machine.specs.Parts.{each, zeroCounts, withMode, withExec, withPc, withMask, withPending, withFault, withProgress, withLoops};
 ghost use Rattle.machine.specs.Registers.{pairOf, execOf, modeOf};

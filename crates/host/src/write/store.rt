@@ -10,7 +10,7 @@ ghost use Prim.Native.Nat.{_<_};
 ghost use Rattle.word.specs.Profile.{LP5523};
 ghost use Rattle.machine.specs.declared.Register.the-variants.{Control, Modes, OutputLevel, Start, Memory};
 ghost use Rattle.machine.specs.Stored.{withByte, stored};
-ghost use Rattle.host.specs.Places.{Exists};
+ghost use Rattle.host.specs.internal.Places.{Exists};
 
 fn store_control(mut chip: Chip, byte: u8) -> Chip
     ensures { λ r. ⌜ r ≡ stored LP5523 Control byte chip ⌝ }

@@ -4,7 +4,7 @@ use mathlib.Core.List.{[], _∷_}
 use mathlib.Core.Path.{sym, _∙_, ap}
 use borrow.Author.Needs.{needs}
 use Rattle.machine.specs.declared.Chip.{Chip}
-use Rattle.beats.specs.Parts.{lent, chipOf, turnedOf}
+use Rattle.beats.specs.internal.Parts.{lent, chipOf, turnedOf}
 use Rattle.beats.proofs.TurnOf.{three-turns}
 use Rattle.beats.proofs.IdleOf.{idle-beat}
 use Rattle.beats.proofs.beats.beat.Statement.{statement}

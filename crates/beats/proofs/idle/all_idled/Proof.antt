@@ -1,6 +1,6 @@
 -- `beats::idle::all_idled` meets its contract.
 use borrow.Author.Needs.{needs}
-use Rattle.beats.specs.Parts.{chipOf}
+use Rattle.beats.specs.internal.Parts.{chipOf}
 use Rattle.beats.proofs.Engines.{three}
 use Rattle.beats.proofs.idle.all_idled.Statement.{statement}
 use Rattle.beats.proofs.idle.all_idled.Tie as tie

@@ -4,7 +4,7 @@ use Prim.Native.Nat.{_-_, _≤_}
 use mathlib.Core.Path.{_≡_, refl, sym, _∙_}
 use native.Mathlib.Omega.{arith}
 use borrow.Author.Needs.{needs}
-use Rattle.beats.specs.Parts.{levelAfter}
+use Rattle.beats.specs.internal.Parts.{levelAfter}
 use Rattle.beats.proofs.Loops.{each-to, one-place-more, every-place}
 use Rattle.beats.proofs.outputs.change.Statement.{statement}
 use Rattle.beats.proofs.outputs.change.Tie as tie

@@ -2,7 +2,7 @@
 use borrow.Author.Needs.{needs}
 use mathlib.Core.Path.{sym}
 use Rattle.plan.proofs.Laws.{via}
-use Rattle.beats.specs.Parts.{levelsAfter}
+use Rattle.beats.specs.internal.Parts.{levelsAfter}
 use Rattle.beats.proofs.Levels.{levels-kept}
 use Rattle.beats.proofs.outputs.with_effect.Statement.{statement}
 use Rattle.beats.proofs.outputs.with_effect.Tie as tie

@@ -5,7 +5,7 @@ use native.Mathlib.Omega.{arith}
 use borrow.Author.Needs.{needs}
 use lib.Dec.{eqb}
 use Rattle.engine_core.specs.Core.{engineOf}
-use Rattle.beats.specs.Parts.{chipOf}
+use Rattle.beats.specs.internal.Parts.{chipOf}
 use Rattle.beats.proofs.Engines.{three, receives-bit}
 use Rattle.beats.proofs.pending.received.Statement.{statement}
 use Rattle.beats.proofs.pending.received.Tie as tie

@@ -1,7 +1,7 @@
 -- `beats::pending::with_pulse` meets its contract.
 use borrow.Author.Needs.{needs}
 use Rattle.machine.specs.Triggers.{pulsed}
-use Rattle.beats.specs.Parts.{chipOf}
+use Rattle.beats.specs.internal.Parts.{chipOf}
 use Rattle.beats.proofs.Engines.{three}
 use Rattle.beats.proofs.pending.with_pulse.Statement.{statement}
 use Rattle.beats.proofs.pending.with_pulse.Tie as tie

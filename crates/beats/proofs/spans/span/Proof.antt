@@ -3,7 +3,7 @@ use Prim.Native.Nat.{ℕ, _-_, _≤_, _<_}
 use mathlib.Core.Path.{_≡_, sym, _∙_}
 use native.Mathlib.Omega.{arith}
 use borrow.Author.Needs.{needs}
-use Rattle.beats.specs.Parts.{Fixed, lent, spanned}
+use Rattle.beats.specs.internal.Parts.{Fixed, lent, spanned}
 use Rattle.beats.specs.Spans.{spanOf}
 use Rattle.beats.proofs.SpanOf.{span-quiet, span-done, span-on}
 use Rattle.beats.proofs.AdvanceOf.{at-most}

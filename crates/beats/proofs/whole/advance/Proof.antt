@@ -1,7 +1,7 @@
 -- `beats::whole::advance` meets its contract.
 use mathlib.Core.Path.{refl}
 use borrow.Author.Needs.{needs}
-use Rattle.beats.specs.Parts.{fixedOf, lent, lentOf}
+use Rattle.beats.specs.internal.Parts.{fixedOf, lent, lentOf}
 use Rattle.beats.proofs.AdvanceOf.{lent-of, advanced}
 use Rattle.beats.proofs.whole.advance.Statement.{statement}
 use Rattle.beats.proofs.whole.advance.Tie as tie

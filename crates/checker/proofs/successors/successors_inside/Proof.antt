@@ -2,12 +2,13 @@
 use Prim.Native.Nat.{ℕ}
 use mathlib.Core.Path.{_≡_, sym, ap, _∙_}
 use borrow.Author.Needs.{needs}
+use Rattle.plan.specs.internal.Passes.{isInside}
 use Rattle.word.specs.Classes.{flowOf}
 use Rattle.word.specs.declared.Flow.{Flow}
 use Rattle.plan.specs.declared.EnginePlan.{EnginePlan}
 use Rattle.plan.specs.declared.Stray.{Stray}
 use Rattle.plan.specs.Tests.{successorsInside}
-use Rattle.plan.specs.Strays.{isInside, strayOf}
+use Rattle.plan.specs.Strays.{strayOf}
 use Rattle.plan.proofs.Laws.{stray-inside}
 use Rattle.checker.proofs.successors.successors_inside.Statement.{statement}
 use Rattle.checker.proofs.successors.successors_inside.Tie as tie

@@ -3,7 +3,7 @@ use mathlib.Core.Path.{_≡_, _∙_, ap}
 use borrow.Author.Needs.{needs}
 use lib.ListN.{length}
 use Rattle.engine_core.proofs.Three.{unmapped}
-use Rattle.beats.specs.Spans.{tickedFrom}
+use Rattle.beats.specs.internal.Ticks.{tickedFrom}
 use Rattle.beats.proofs.SpanOf.{ended-three, beat-of-span}
 use Rattle.chip.proofs.ticks.tick.Statement.{statement}
 use Rattle.chip.proofs.ticks.tick.Tie as tie

@@ -1,7 +1,7 @@
 -- `disassembler::disassembler::check_writable` meets its contract: the order of 01 is the order of the calls.
 use mathlib.Core.Path.{sym, ap, _∙_}
 use borrow.Author.Needs.{needs}
-use Rattle.plan.specs.Passes.{isAccept}
+use Rattle.plan.specs.Verdict.{isAccept}
 use Rattle.plan.proofs.Laws.{not-accept, stops, goes-on}
 use Rattle.disassembler.proofs.Defined.{ranges-in-order, not-writable, writable}
 use Rattle.disassembler.proofs.disassembler.check_writable.Statement.{statement}

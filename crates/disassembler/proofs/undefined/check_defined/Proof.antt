@@ -1,7 +1,7 @@
 -- `disassembler::undefined::check_defined` meets its contract.
 use mathlib.Core.Path.{ap}
 use borrow.Author.Needs.{needs}
-use Rattle.plan.specs.Passes.{isAccept}
+use Rattle.plan.specs.Verdict.{isAccept}
 use Rattle.plan.proofs.Laws.{not-accept, stops, goes-on}
 use Rattle.disassembler.specs.Walks.{planDefined}
 use Rattle.disassembler.proofs.undefined.check_defined.Statement.{statement}

@@ -1,7 +1,7 @@
 -- `engine::word_end::advance` meets its contract.
 use borrow.Author.Needs.{needs}
 use mathlib.Core.Path.{ap}
-use Rattle.word.specs.Decode.{stepAt}
+use Rattle.word.specs.Steps.{stepAt}
 use Rattle.engine.proofs.word_end.advance.Statement.{statement}
 use Rattle.engine.proofs.word_end.advance.Tie as tie
 

@@ -2,7 +2,7 @@
 use mathlib.Core.Path.{sym, subst, _∙_}
 use borrow.Author.Needs.{needs}
 use borrow.Author.Tests.{not-true, not-false}
-use Rattle.host.specs.Places.{Exists}
+use Rattle.host.specs.internal.Places.{Exists}
 use Rattle.host.proofs.Addresses.{exists-at}
 use Rattle.host.proofs.Single.{one-refused, one-stored}
 use Rattle.host.proofs.write.write.Statement.{statement}

@@ -6,7 +6,7 @@ use mathlib.Core.Path.{_≡_, sym, _∙_}
 use native.Mathlib.Omega.{arith}
 use borrow.Author.Needs.{needs}
 use Rattle.text.specs.Number.{isNumber, allDigits, numberOf}
-use Rattle.text_bytes.specs.Digits.{tooLarge}
+use Rattle.text_bytes.specs.internal.Digits.{tooLarge}
 use Rattle.text.proofs.Numbers.{number-empty, number-zero, number-digits}
 use Rattle.text_bytes.proofs.Scan.{broken, whole, read-malformed, read-outside, read-number}
 use Rattle.text_bytes.proofs.decimals.read_decimal.Statement.{statement}

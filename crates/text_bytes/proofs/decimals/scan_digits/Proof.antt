@@ -4,7 +4,7 @@ use mathlib.Core.Logic.{⊎-elim}
 use mathlib.Core.Path.{_≡_, refl, sym, ap, _∙_}
 use native.Mathlib.Omega.{arith}
 use lib.ListN.{length, drop, getD}
-use Rattle.text_bytes.specs.Digits.{tooLarge, scan}
+use Rattle.text_bytes.specs.internal.Digits.{tooLarge, scan}
 use Rattle.text_bytes.proofs.Scan.{scan-low, scan-high, scan-digit, scan-end}
 use Rattle.text_bytes.proofs.decimals.scan_digits.Statement.{statement}
 use Rattle.text_bytes.proofs.decimals.scan_digits.Tie as tie

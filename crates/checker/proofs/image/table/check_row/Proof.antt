@@ -1,6 +1,6 @@
 -- `checker::image::table::check_row` meets its contract.
 use borrow.Author.Tests.{eq-eqb, ne-eqb}
-use Rattle.plan.specs.Passes.{rowVerdict}
+use Rattle.plan.specs.internal.Passes.{rowVerdict}
 use Rattle.checker.proofs.image.table.check_row.Statement.{statement}
 use Rattle.checker.proofs.image.table.check_row.Tie as tie
 

@@ -1,7 +1,7 @@
 -- `checker::ranges::apart::check_apart` meets its contract.
 use mathlib.Core.Path.{refl, sym, ap, _∙_}
 use mathlib.Core.Bool.{not}
-use Rattle.plan.specs.Passes.{apartVerdict}
+use Rattle.plan.specs.internal.Passes.{apartVerdict}
 use Rattle.checker.proofs.Turns.{here, later}
 use Rattle.checker.proofs.ranges.apart.check_apart.Statement.{statement}
 use Rattle.checker.proofs.ranges.apart.check_apart.Tie as tie

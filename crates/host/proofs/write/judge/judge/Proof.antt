@@ -3,7 +3,7 @@ use mathlib.Core.Path.{subst}
 use borrow.Author.Needs.{needs}
 use Rattle.word.specs.Profile.{LP5523}
 use Rattle.machine.specs.Judged.{judged}
-use Rattle.host.specs.Places.{Exists}
+use Rattle.host.specs.internal.Places.{Exists}
 use Rattle.plan.proofs.Laws.{via}
 use Rattle.host.proofs.write.judge.judge.Statement.{statement}
 use Rattle.host.proofs.write.judge.judge.Tie as tie

@@ -3,7 +3,7 @@ use mathlib.Core.Path.{refl, subst}
 use borrow.Author.Needs.{needs}
 use Rattle.word.specs.Profile.{LP5523}
 use Rattle.machine.specs.Stored.{stored}
-use Rattle.host.specs.Places.{Exists}
+use Rattle.host.specs.internal.Places.{Exists}
 use Rattle.plan.proofs.Laws.{via}
 use Rattle.host.proofs.write.store.store.Statement.{statement}
 use Rattle.host.proofs.write.store.store.Tie as tie

@@ -4,7 +4,7 @@ use mathlib.Core.Path.{_≡_, ap}
 use native.Mathlib.Omega.{arith}
 use lib.ListN.{length, set}
 use borrow.Author.Needs.{needs}
-use Rattle.word.specs.Decode.{addressAt}
+use Rattle.word.specs.Steps.{addressAt}
 use Rattle.machine.specs.Parts.{withStart, withEngines}
 use Rattle.engine_core.proofs.Three.{getD-any, unmapped}
 use Rattle.host.proofs.write.store.store_start.Statement.{statement}

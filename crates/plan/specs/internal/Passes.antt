@@ -1,10 +1,11 @@
--- What the functions' parts give; that together they are checkOf is proved in proofs/; nothing here has to be believed.
+-- What the functions' parts give. That together they are checkOf is proved in proofs/.
 use Prim.Native.Nat.{ℕ, zero, suc, _+_, _-_}
 use mathlib.Core.Bool.{Bool, true, false, not, cond}
 use mathlib.Core.List.{List}
 use lib.ListN.{getD}
+use Rattle.plan.specs.Verdict.{isAccept}
 use Rattle.word.specs.Profile.{Profile}
-use Rattle.word.specs.Decode.{addressAt}
+use Rattle.word.specs.Steps.{addressAt}
 use Rattle.word.specs.Classes.{flowOf, tableUseOf, isUndefined}
 use Rattle.word.specs.declared.Word.{Word}
 use Rattle.plan.specs.declared.EnginePlan.{EnginePlan}
@@ -12,20 +13,11 @@ use Rattle.plan.specs.declared.EnginePlan.the-variants.{Unused, Code, Co
 use Rattle.plan.specs.declared.Plan.{Plan}
 use Rattle.plan.specs.declared.Verdict.{Verdict}
 use Rattle.plan.specs.declared.Verdict.the-variants.{Accept, WrongLength, OutOfOrder, CodeMeetsTable, UndefinedWord, SuccessorOutside, TableMisused, TableNotOpened, ReservedRowBit}
+use Rattle.plan.specs.declared.Stray.{Stray}
+use Rattle.plan.specs.declared.Stray.the-variants.{Inside, To}
 use Rattle.plan.specs.Ranges.{enginePlans, planAt}
-use Rattle.plan.specs.Conditions.{wordAt}
+use Rattle.word.specs.Decode.{wordAt}
 use Rattle.plan.specs.Tests.{inOrder, meetsAny, successorsInside, usesOwnTable, opensTable, rowClear}
-
-abbrev pub isAccept : Verdict → Bool
-isAccept Accept = true
-isAccept WrongLength = false
-isAccept (OutOfOrder i) = false
-isAccept (CodeMeetsTable i) = false
-isAccept (UndefinedWord i a) = false
-isAccept (SuccessorOutside i a) = false
-isAccept (TableMisused i a) = false
-isAccept (TableNotOpened i a) = false
-isAccept (ReservedRowBit i a) = false
 
 -- The first of two verdicts that refuses.
 unfoldable pub orElse : Verdict → Verdict → Verdict
@@ -94,3 +86,8 @@ engineVerdict P q i image = orElse (codeVerdict P q i image) (tableVerdict P q i
 unfoldable pub enginesVerdict : Profile → Plan → List ℕ → Verdict
 enginesVerdict P p image =
     orElse (engineVerdict P (planAt P p 1) 1 image) (orElse (engineVerdict P (planAt P p 2) 2 image) (engineVerdict P (planAt P p 3) 3 image))
+
+-- Whether no successor lies outside.
+abbrev pub isInside : Stray → Bool
+isInside Inside = true
+isInside (To a) = false

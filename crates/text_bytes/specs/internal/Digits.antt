@@ -1,5 +1,4 @@
--- The digits of a text, read one by one as the code reads them. Nothing here has to be believed: no public function's contract
--- speaks of it.
+-- The digits of a text, read one by one as the code reads them.
 use Prim.Native.Nat.{ℕ, _+_, _-_, _*_, min}
 use mathlib.Core.Bool.{cond}
 use mathlib.Core.List.{List, [], _∷_}

@@ -1,4 +1,4 @@
--- Beats in which the engines do no more than wait. That a beat is then this is proved; nothing here has to be believed.
+-- Beats in which the engines do no more than wait. That a beat is then this is proved in proofs/.
 use Prim.Native.Nat.{ℕ, _-_}
 use mathlib.Core.Bool.{Bool, true, not, cond, _&&_, _||_}
 use mathlib.Core.List.{List, [], _∷_, map}

@@ -1,5 +1,5 @@
 -- A chip, and what a turn, a beat and beats one after another give, put together from the parts that the code keeps; the outputs' levels
--- after a beat. Nothing here has to be believed: what `advance` promises speaks of whole chips.
+-- after a beat.
 use Prim.Native.Nat.{ℕ}
 use mathlib.Core.Bool.{Bool, cond}
 use mathlib.Core.List.{List, [], _∷_, map}
