@@ -7,6 +7,7 @@ use mathlib.Core.Path.{_≡_, refl, sym, ap, _∙_}
 use borrow.Author.Tests.{leb-true, le-leb}
 use lib.Dec.{leb}
 use lib.ListN.{getD}
+use Rattle.laws.proofs.Tests.{by-test}
 use Rattle.word.specs.Profile.{Profile}
 use Rattle.word.specs.declared.Address.{Address}
 use Rattle.plan.specs.declared.EnginePlan.{EnginePlan}
@@ -14,7 +15,6 @@ use Rattle.plan.specs.declared.EnginePlan.the-variants.{Unused, Code, CodeAndTa
 use Rattle.plan.specs.declared.Plan.{Plan}
 use Rattle.plan.specs.Ranges.{enginePlans, planAt, InRange, InCode}
 use Rattle.plan.specs.Tests.{inRange, inCode}
-use Rattle.plan.proofs.Laws.{by-test}
 use Rattle.plan.proofs.Tests.{both}
 use Rattle.grammar.specs.declared.Form.{Form}
 use Rattle.grammar.specs.declared.Form.the-variants.{Op, Row, Spare}

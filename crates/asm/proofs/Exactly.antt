@@ -8,8 +8,8 @@ use native.Mathlib.Omega.{arith}
 use lib.ListN.{length}
 use lib.Dec.{ltb}
 use borrow.Author.Tests.{ltb-true, ltb-false}
+use Rattle.laws.proofs.Tests.{by-test}
 use Rattle.word.specs.Profile.{Profile}
-use Rattle.plan.proofs.Laws.{by-test}
 use Rattle.asm.specs.Reading.{Sheet, program, refused-at, readSheet}
 use Rattle.asm.specs.Conditions.{Line, linesOf, planSaid, numberAt, lineCount, GoodTo, FirstBad, Ordered, Apart, GoodLines, RefusesExactly}
 use Rattle.asm.proofs.Steps.{never}

@@ -7,9 +7,9 @@ use mathlib.Core.Path.{_≡_, refl, sym, ap, _∙_}
 use native.Mathlib.Omega.{arith}
 use borrow.Author.Tests.{leb-true, le-leb, ltb-true, eqb-true, eqb-false}
 use lib.Dec.{leb, ltb, eqb}
+use Rattle.laws.proofs.Tests.{by-test}
 use Rattle.word.specs.Field.{inside, upto}
 use Rattle.word.specs.Profile.{Range, _to_}
-use Rattle.plan.proofs.Laws.{by-test}
 use Rattle.grammar.specs.Form.{number, decision, Pair}
 use Rattle.grammar.specs.Theorems.{isEmpty, fitsForm}
 

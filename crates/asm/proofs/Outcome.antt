@@ -7,6 +7,7 @@ use native.Mathlib.Omega.{arith}
 use borrow.Author.Tests.{eqb-true, eqb-false}
 use lib.Dec.{eqb}
 use lib.ListN.{length, drop}
+use Rattle.laws.proofs.Tests.{by-test}
 use Rattle.text.specs.Bytes.{lineFeed, split}
 use Rattle.text.proofs.Splits.{split-step}
 use Rattle.word.specs.Profile.{Profile, wordsOf, enginesOf}
@@ -15,7 +16,6 @@ use Rattle.plan.specs.declared.EnginePlan.{EnginePlan}
 use Rattle.plan.specs.declared.Plan.{Plan}
 use Rattle.plan.specs.Verdict.{reportOf}
 use Rattle.plan.specs.Check.{checkRangesOf}
-use Rattle.plan.proofs.Laws.{by-test}
 use Rattle.grammar.specs.declared.Form.{Form}
 use Rattle.grammar.specs.declared.Form.the-variants.{Spare}
 use Rattle.grammar.specs.Form.{Reading, values, refused}

@@ -3,6 +3,7 @@ use Prim.Native.Nat.{ℕ}
 use mathlib.Core.Bool.{Bool, true, false, cond, _&&_, true≢false, false≢true}
 use mathlib.Core.List.{List, [], _∷_, map, _++_, append-nil}
 use mathlib.Core.Path.{_≡_, refl, sym, ap, _∙_}
+use Rattle.laws.proofs.Tests.{by-test}
 use Rattle.word.specs.Profile.{Profile}
 use Rattle.plan.specs.declared.Plan.{Plan}
 use Rattle.plan.specs.declared.Verdict.{Verdict}
@@ -11,7 +12,6 @@ use Rattle.plan.specs.Verdict.{reportOf}
 use Rattle.plan.specs.Tests.{holds}
 use Rattle.plan.specs.Check.{engineNumbers, firstFailing, checkRangesOf}
 use Rattle.plan.proofs.First.{allHold}
-use Rattle.plan.proofs.Laws.{by-test}
 use Rattle.asm.specs.Conditions.{Ordered, Apart}
 use Rattle.asm.proofs.Writable.{all-met, orders-met, meetings-met, ranges-exactly}
 

@@ -7,8 +7,8 @@ use borrow.Author.Tests.{eqb-true, eqb-false, lt-ltb, le-ltb}
 use lib.Dec.{eqb}
 use lib.ListN.{length, getD, drop, length-drop}
 use lib.Seq.{drop-cons}
+use Rattle.laws.proofs.Tests.{by-test}
 use Rattle.word.specs.Profile.{Profile, LP5523, enginesOf}
-use Rattle.plan.proofs.Laws.{by-test}
 use Rattle.grammar.specs.declared.Form.{Form}
 use Rattle.grammar.specs.declared.Form.the-variants.{Spare}
 use Rattle.asm.specs.Places.{formAt}

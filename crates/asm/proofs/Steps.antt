@@ -6,9 +6,9 @@ use mathlib.Core.Path.{_≡_, refl, sym, ap, _∙_}
 use native.Mathlib.Omega.{arith}
 use borrow.Author.Tests.{eqb-true}
 use lib.Dec.{eqb}
+use Rattle.laws.proofs.Tests.{by-test}
 use Rattle.word.specs.Answer.{Answer, success}
 use Rattle.plan.specs.declared.Plan.{Plan}
-use Rattle.plan.proofs.Laws.{by-test}
 use Rattle.grammar.specs.Form.{Reading, values, refused}
 use Rattle.asm.specs.Reading.{Sheet, program, refused-at, unended, ranged, withValues, withWord}
 

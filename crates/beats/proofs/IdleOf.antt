@@ -7,6 +7,7 @@ use native.Mathlib.Omega.{arith}
 use borrow.Author.Tests.{ltb-true, lt-leb}
 use lib.Dec.{ltb}
 use lib.ListN.{set}
+use Rattle.laws.proofs.Tests.{by-test, and-left, and-right}
 use Rattle.word.specs.Profile.{LP5523}
 use Rattle.machine.specs.declared.Progress.{Progress}
 use Rattle.machine.specs.declared.Progress.the-variants.{BetweenWords, Waiting, Ramping, Triggering}
@@ -21,7 +22,6 @@ use Rattle.machine.specs.Durations.{waits}
 use Rattle.machine.specs.Turn.{acts, beatOf, applied, turn}
 use Rattle.machine.specs.Tick.{turns}
 use Rattle.machine.proofs.Safety.{turn-acts, turn-rests}
-use Rattle.plan.proofs.Laws.{by-test, and-left, and-right}
 use Rattle.engine_core.specs.Core.{engineOf}
 use Rattle.beats.specs.declared.Cores.{Cores}
 use Rattle.beats.specs.internal.Parts.{Fixed, Lent, chipOf}

@@ -4,6 +4,7 @@ use mathlib.Core.Bool.{Bool, true, false, cond}
 use mathlib.Core.List.{List, [], _∷_, map}
 use mathlib.Core.Path.{_≡_, refl, ap₂}
 use lib.Dec.{eqb}
+use Rattle.laws.proofs.Tests.{same}
 use Rattle.word.specs.Profile.{LP5523}
 use Rattle.machine.specs.declared.Engine.{Engine}
 use Rattle.machine.specs.declared.Output.{Output}
@@ -12,10 +13,6 @@ use Rattle.machine.specs.declared.Effect.the-variants.{Keep}
 use Rattle.machine.specs.Parts.{bit, each}
 use Rattle.machine.specs.Outputs.{rowBit, holder, outputAfter, affected}
 use Rattle.beats.specs.internal.Parts.{outputOf, levelAfter, levelsAfter}
-
-pub same : {A : Type 0} (b : Bool) (x : A) → cond b x x ≡ x
-same true x = refl
-same false x = refl
 
 -- a change that leaves every element leaves the list
 pub each-none : {A : Type 0} (f : ℕ → A → A) → ((k : ℕ) (x : A) → f k x ≡ x) → (i : ℕ) (xs : List A) → each f i xs ≡ xs

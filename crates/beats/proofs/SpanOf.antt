@@ -7,6 +7,7 @@ use native.Mathlib.Omega.{arith}
 use borrow.Author.Tests.{not-true}
 use lib.Dec.{eqb}
 use lib.ListN.{length, getD}
+use Rattle.laws.proofs.Tests.{by-test}
 use Rattle.word.specs.Profile.{LP5523}
 use Rattle.machine.specs.declared.Chip.{Chip}
 use Rattle.machine.specs.declared.Engine.{Engine}
@@ -23,7 +24,6 @@ use Rattle.machine.proofs.Common.{or-false-left, or-false-right, each-length}
 use Rattle.machine.proofs.Run.{run-goes}
 use Rattle.machine.proofs.Theorems.{stopped-beat}
 use Rattle.machine.proofs.Safety.{turn-rests}
-use Rattle.plan.proofs.Laws.{by-test}
 use Rattle.engine_core.proofs.Three.{three}
 use Rattle.beats.specs.declared.CoresTicked.{CoresTicked}
 use Rattle.beats.specs.declared.CoresRan.{CoresRan}

@@ -7,6 +7,7 @@ use native.Mathlib.Nat.{zero-div}
 use lib.Bits.{bitOr}
 use lib.Dec.{eqb}
 use lib.ListN.{set}
+use Rattle.laws.proofs.Tests.{by-test, same}
 use Rattle.word.specs.Profile.{Profile, LP5523}
 use Rattle.machine.specs.declared.Engine.{Engine}
 use Rattle.machine.specs.declared.Output.{Output}
@@ -21,10 +22,9 @@ use Rattle.machine.specs.Triggers.{receives, toPin}
 use Rattle.machine.specs.Turn.{acts, beatOf, applied, turn}
 use Rattle.machine.specs.Tick.{turns}
 use Rattle.machine.proofs.Safety.{turn-acts, turn-rests}
-use Rattle.plan.proofs.Laws.{by-test}
 use Rattle.engine.specs.Act.{rests}
 use Rattle.beats.specs.internal.Parts.{outputOf, levelsAfter}
-use Rattle.beats.proofs.Levels.{same, each-none, Holds, outputs-by-levels}
+use Rattle.beats.proofs.Levels.{each-none, Holds, outputs-by-levels}
 
 keeps-output : (P : Profile) (es : List Engine) (i k : ℕ) (o : Output) → outputAfter P es i Keep k o ≡ o
 unfolding outputAfter

@@ -1,16 +1,16 @@
 -- What the last arm of each part of the match over the words knows: the word is one that no earlier arm names.
 use Prim.Native.Nat.{ℕ, _≤_}
-use mathlib.Core.Bool.{Bool, true, false, _&&_, _||_, false≢true}
-use mathlib.Core.Logic.{_⊎_, inl, inr}
+use mathlib.Core.Bool.{Bool, true, _&&_, _||_, false≢true}
+use mathlib.Core.Logic.{inl, inr}
 use mathlib.Core.List.{List, [], _∷_}
 use mathlib.Core.Path.{_≡_, refl}
 use native.Mathlib.Omega.{arith}
 use borrow.Author.Tests.{leb-true, ltb-true}
 use lib.Dec.{leb, ltb}
 use types.Run.{OneOf}
+use Rattle.laws.proofs.Tests.{by-test, and-left, and-right}
 use Rattle.word.specs.declared.Word.{Word}
 use Rattle.word.specs.declared.Word.the-variants.{Rst, Ramp, Wait, Set, RampVar, SetVar, BranchVar, Jump, Arith, ArithVar, MuxAt, MuxClr, MuxSel, MuxMove, Branch, End, Int, Trigger, Undefined}
-use Rattle.plan.proofs.Laws.{by-test, and-left, and-right}
 use Rattle.engine.specs.internal.Operands.{From}
 
 outside : ℕ → ℕ → ℕ → Bool

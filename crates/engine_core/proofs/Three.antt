@@ -5,6 +5,7 @@ use mathlib.Core.List.{List, [], _∷_, map}
 use mathlib.Core.Path.{_≡_, refl, sym, _∙_, ap}
 use native.Mathlib.Omega.{arith}
 use lib.ListN.{length, getD, length-map}
+use Rattle.laws.proofs.Tests.{or-false}
 use Rattle.machine.specs.Parts.{each}
 
 -- a list of three is its elements
@@ -18,10 +19,6 @@ three d (x ∷ (y ∷ (z ∷ (u ∷ us)))) h = absurd (omega arith)
 -- a change of each of the three
 pub each-three : {A : Type 0} (f : ℕ → A → A) (d : A) (xs : List A) → length xs ≡ 3 → {x y z : A} → x ≡ f 0 (getD xs 0 d) → y ≡ f 1 (getD xs 1 d) → z ≡ f 2 (getD xs 2 d) → x ∷ (y ∷ (z ∷ [])) ≡ each f 0 xs
 each-three f d xs h p q r = rw (p, q, r) (sym (ap (each f 0) (three d xs h)))
-
-or-false : (b : Bool) → (b || false) ≡ b
-or-false true = refl
-or-false false = refl
 
 -- a test F of the three that asks f 0 of the first, f 1 of the second and f 2 of the last, where the first, the second and the last settle it
 module _ {A : Type 0} (F : List A → Bool) (f : ℕ → A → Bool) (asks : (x y z : A) → F (x ∷ (y ∷ (z ∷ []))) ≡ (f 0 x || (f 1 y || (f 2 z || false)))) (d : A) (xs : List A) (l : length xs ≡ 3) where

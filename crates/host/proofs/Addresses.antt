@@ -5,12 +5,12 @@ use mathlib.Core.Path.{_≡_, refl}
 use native.Mathlib.Omega.{arith}
 use lib.Dec.{leb, eqb}
 use borrow.Author.Tests.{eqb-true, leb-true, ne-eqb, le-leb, lt-leb}
+use Rattle.laws.proofs.Tests.{by-cond}
 use Rattle.word.specs.Profile.{LP5523}
 use Rattle.machine.specs.declared.Register.{Register}
 use Rattle.machine.specs.declared.Register.the-variants.{Control, Modes, OutputLevel, VariableD, Start, Page, Memory, Unlisted}
 use Rattle.machine.specs.Registers.{between, registerAt}
 use Rattle.machine.specs.Burst.{isUnlisted}
-use Rattle.machine.proofs.Common.{by-cond}
 use Rattle.host.specs.internal.Places.{Exists}
 
 -- an address that is not from f to l, and one that is

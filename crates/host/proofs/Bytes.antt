@@ -7,6 +7,7 @@ use native.Mathlib.Omega.{arith}
 use native.Mathlib.Numerals.{add-one}
 use lib.ListN.{length, getD, drop}
 use lib.Seq.{drop-cons}
+use Rattle.laws.proofs.Tests.{by-test}
 use Rattle.word.specs.Profile.{Profile, LP5523}
 use Rattle.machine.specs.declared.Chip.{Chip}
 use Rattle.machine.specs.declared.Outcome.{Outcome}
@@ -18,7 +19,6 @@ use Rattle.machine.specs.Registers.{registerAt}
 use Rattle.machine.specs.Judged.{judged}
 use Rattle.machine.specs.Stored.{stored}
 use Rattle.machine.specs.Burst.{Placed, visited, isUnlisted, someUnlisted, succeeds, bytesWritten, undone, burstOf}
-use Rattle.plan.proofs.Laws.{by-test}
 use Rattle.host.proofs.Addresses.{listed-low}
 
 abbrev pub placed : ℕ → ℕ → Placed

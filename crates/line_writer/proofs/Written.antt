@@ -10,11 +10,11 @@ use borrow.Author.Tests.{ltb-true, ltb-false, lt-ltb, le-ltb, not-true, not-fals
 use lib.Dec.{T, eqb, ltb}
 use lib.ListN.{length, getD, take, drop, length-take, List·getD-append, List·getD-eq-default}
 use lib.Seq.{drop-cons, getD-take, getD-drop}
+use Rattle.laws.proofs.Tests.{by-test}
 use Rattle.text.specs.Bytes.{ascii, space, equalsSign, joined, join}
 use Rattle.text.specs.Number.{decimalOf}
 use Rattle.text.specs.Put.{lastPlace, Put}
 use Rattle.text.proofs.Puts.{put-append, put-length, SoFar}
-use Rattle.text.proofs.Turns.{by-test}
 use Rattle.word.specs.Profile.{LP5523}
 use Rattle.grammar.specs.declared.Value.{Value}
 use Rattle.grammar.specs.declared.Value.the-variants.{Number}

@@ -6,6 +6,7 @@ use mathlib.Core.Path.{_≡_}
 use lib.Dec.{leb, ltb}
 use lib.ListN.{getD, set}
 use borrow.Author.Tests.{leb-false}
+use Rattle.laws.proofs.Tests.{by-cond}
 use Rattle.word.specs.Profile.{Profile, wordsOf, enginesOf}
 use Rattle.word.specs.Steps.{addressAt}
 use Rattle.machine.specs.declared.Mode.{Mode}
@@ -30,7 +31,7 @@ use Rattle.machine.specs.Stored.{enters, stored}
 use Rattle.machine.specs.Burst.{Placed, visited, someUnlisted, succeeds, bytesWritten, burstOf}
 use Rattle.machine.specs.Interrupts.{readOf}
 use Rattle.machine.specs.Calls.{Call, beat, run, burst, readInterrupts, after}
-use Rattle.machine.proofs.Common.{by-cond, each-keeps, set-keeps}
+use Rattle.machine.proofs.Common.{each-keeps, set-keeps}
 
 -- chips
 -- each step of a call keeps G: an engine's turn, a pulse, an interrupt read, and a byte that is not refused

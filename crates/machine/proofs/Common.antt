@@ -7,18 +7,13 @@ use native.Mathlib.Omega.{arith}
 use lib.Dec.{ltb}
 use lib.ListN.{length, getD, set, replicate, List·getD-eq-default}
 use borrow.Author.Tests.{ltb-true, ltb-false}
+use Rattle.laws.proofs.Tests.{by-test}
 use Rattle.word.specs.Profile.{Profile, LP5523, wordsOf}
 use Rattle.word.specs.declared.Step.{Step}
-use Rattle.plan.proofs.Laws.{by-test}
 use Rattle.machine.specs.declared.Exec.{Exec}
 use Rattle.machine.specs.declared.Exec.the-variants.{Hold, Step as StepOnce, Free, Once}
 use Rattle.machine.specs.Parts.{each}
 use Rattle.machine.specs.WordEnd.{pcAfter}
-
--- a fact about a choice, from each case of its test
-pub by-cond : {A : Type 0} (F : A → Type 0) (b : Bool) {x y : A} → (b ≡ true → F x) → (b ≡ false → F y) → F (cond b x y)
-by-cond F true f g = f refl
-by-cond F false f g = g refl
 
 -- a fact about two choices by one test
 pub both : {A B : Type 0} (R : A → B → Type 0) (b : Bool) {x y : A} {x′ y′ : B} → R x x′ → R y y′ → R (cond b x y) (cond b x′ y′)

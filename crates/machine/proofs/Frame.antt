@@ -6,6 +6,7 @@ use mathlib.Core.Path.{_≡_, refl, _∙_, ap}
 use lib.ListN.{getD, set}
 use lib.Seq.{getD-set-other}
 use borrow.Author.Tests.{ne-eqb}
+use Rattle.laws.proofs.Tests.{by-cond}
 use Rattle.word.specs.Profile.{Profile}
 use Rattle.machine.specs.declared.Engine.{Engine}
 use Rattle.machine.specs.declared.Output.{Output}
@@ -17,7 +18,7 @@ use Rattle.machine.specs.Outputs.{holder, outputAfter}
 use Rattle.machine.specs.Triggers.{receives}
 use Rattle.machine.specs.Turn.{acts, beatOf, applied, turnIf, turn}
 use Rattle.machine.specs.Theorems.{dark, Framed, Frame, OthersKept}
-use Rattle.machine.proofs.Common.{by-cond, each-same, each-leaves}
+use Rattle.machine.proofs.Common.{each-same, each-leaves}
 
 -- a trigger sent changes nothing but what is pending
 pub receives-rest : (i x j : ℕ) (e : Engine) → withPending 0 (receives i x j e) ≡ withPending 0 e

@@ -9,6 +9,7 @@ use native.Mathlib.Nat.{eq-zero-or-pos}
 use lib.Dec.{eqb}
 use lib.ListN.{getD}
 use borrow.Author.Tests.{eqb-true, eqb-false, eq-eqb, ne-eqb}
+use Rattle.laws.proofs.Tests.{by-test}
 use Rattle.word.specs.Profile.{Profile}
 use Rattle.word.specs.declared.Step.{Step}
 use Rattle.word.specs.declared.Address.{Address}
@@ -29,7 +30,6 @@ use Rattle.machine.specs.declared.Progress.the-variants.{BetweenWords, W
 use Rattle.machine.specs.declared.Pointers.{Pointers}
 use Rattle.machine.specs.declared.Engine.{Engine}
 use Rattle.machine.specs.WordEnd.{pcAfter}
-use Rattle.plan.proofs.Laws.{by-test}
 use Rattle.machine.proofs.Common.{by-exec, or-left, or-right}
 use Rattle.machine.proofs.Closed.{hasTable, topOf, bottomOf}
 

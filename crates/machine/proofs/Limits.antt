@@ -6,6 +6,7 @@ use native.Mathlib.Omega.{arith}
 use lib.Dec.{leb, ltb, eqb}
 use lib.ListN.{getD}
 use borrow.Author.Tests.{leb-false, ltb-true}
+use Rattle.laws.proofs.Tests.{by-cond}
 use Rattle.word.specs.Profile.{Profile, LP5523, wordsOf, enginesOf, pagesOf}
 use Rattle.word.specs.Steps.{addressAt, stepAt}
 use Rattle.word.specs.declared.Address.{Address}
@@ -29,7 +30,7 @@ use Rattle.machine.specs.Judged.{judged}
 use Rattle.machine.specs.Stored.{prepared, enters, stored}
 use Rattle.machine.specs.Burst.{succeeds}
 use Rattle.machine.specs.Theorems.{EngineWithin, NewChipWithin, StaysWithin, PcWithin, AllPcWithin, NewChipPc, PcStays}
-use Rattle.machine.proofs.Common.{by-cond, or-false-right, all-alike}
+use Rattle.machine.proofs.Common.{or-false-right, all-alike}
 use Rattle.machine.proofs.Calls.{Steps, calls-keep, inside, EngineSteps, EveryEngine, every-engine}
 use Rattle.machine.proofs.Moves.{Core, core, UseWithin, Moves, waits-moves, ramps-moves, triggers-moves, begins-moves}
 

@@ -7,6 +7,7 @@ use native.Mathlib.Omega.{arith}
 use lib.Bits.{bitAnd}
 use lib.Dec.{leb, eqb}
 use lib.ListN.{getD}
+use Rattle.laws.proofs.Tests.{by-cond}
 use Rattle.word.specs.Profile.{Profile, wordsOf}
 use Rattle.word.specs.Decode.{decodeOf}
 use Rattle.word.specs.Steps.{stepAt}
@@ -36,7 +37,7 @@ use Rattle.machine.specs.Triggers.{triggers}
 use Rattle.machine.specs.TablePointers.{pointed, points}
 use Rattle.machine.specs.Words.{stops, begins}
 use Rattle.machine.specs.Turn.{midWord}
-use Rattle.machine.proofs.Common.{by-cond, by-exec, words-most}
+use Rattle.machine.proofs.Common.{by-exec, words-most}
 
 -- what the limits see of an engine
 pub record Core : Type 0 where

@@ -6,6 +6,7 @@ use mathlib.Core.List.{List, [], _∷_}
 use mathlib.Core.Path.{_≡_, refl, sym, ap, subst, _∙_}
 use lib.Dec.{eqb}
 use borrow.Author.Tests.{eqb-true, not-true}
+use Rattle.laws.proofs.Tests.{by-test, and-left, and-right, by-cond}
 use Rattle.word.specs.Profile.{Profile, LP5523}
 use Rattle.machine.specs.declared.Engine.{Engine}
 use Rattle.machine.specs.declared.Chip.{Chip}
@@ -21,8 +22,7 @@ use Rattle.machine.specs.Stored.{stored}
 use Rattle.machine.specs.Burst.{Placed, visited, someUnlisted, succeeds, bytesWritten, burstOf}
 use Rattle.machine.specs.Interrupts.{readOf}
 use Rattle.machine.specs.Calls.{burst, onlySettings, allowed}
-use Rattle.plan.proofs.Laws.{by-test, and-left, and-right}
-use Rattle.machine.proofs.Common.{by-cond, each-leaves}
+use Rattle.machine.proofs.Common.{each-leaves}
 use Rattle.machine.proofs.Kept.{core}
 use Rattle.machine.proofs.Refusals.{refused-burst}
 

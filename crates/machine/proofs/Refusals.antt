@@ -3,6 +3,7 @@ use mathlib.Core.Bool.{Bool, false, cond, false≢true}
 use mathlib.Core.List.{[], _∷_}
 use mathlib.Core.Path.{_≡_, refl, sym, _∙_, ap}
 use borrow.Author.Tests.{lt-ltb}
+use Rattle.laws.proofs.Tests.{by-cond}
 use Rattle.machine.specs.declared.Chip.{Chip}
 use Rattle.machine.specs.declared.Written.{Written}
 use Rattle.machine.specs.declared.Outcome.the-variants.{Success, TooManyBeats}
@@ -10,7 +11,6 @@ use Rattle.machine.specs.Tick.{tickIf, tick}
 use Rattle.machine.specs.Run.{mostBeats, beginning, beatsMore, runOf}
 use Rattle.machine.specs.Burst.{visited, someUnlisted, succeeds, bytesWritten, undone, burstOf}
 use Rattle.machine.specs.Theorems.{RefusedBurst, RefusedRun, StoppedBeat}
-use Rattle.machine.proofs.Common.{by-cond}
 
 -- bytes up to a refusal are undone
 refused-undone : (m : Chip) (w : Written) → succeeds (undone m w .outcome) ≡ false → undone m w .chip ≡ m

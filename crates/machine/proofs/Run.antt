@@ -2,10 +2,11 @@
 use Prim.Native.Nat.{ℕ, zero, suc, _+_, _≤_, _<_}
 use mathlib.Core.Bool.{Bool, true, false, cond}
 use mathlib.Core.List.{List, [], _∷_}
-use mathlib.Core.Path.{_≡_, refl, sym, _∙_, ap, subst}
+use mathlib.Core.Path.{_≡_, refl, sym, ap, subst}
 use native.Mathlib.Omega.{arith}
 use lib.ListN.{length, getD, length-replicate}
 use borrow.Author.Tests.{le-ltb}
+use Rattle.laws.proofs.Tests.{by-cond}
 use Rattle.word.specs.Profile.{Profile, enginesOf}
 use Rattle.machine.specs.declared.Chip.{Chip}
 use Rattle.machine.specs.declared.Ran.{Ran}
@@ -13,7 +14,7 @@ use Rattle.machine.specs.declared.Outcome.the-variants.{Success, TooMany
 use Rattle.machine.specs.Tick.{tick}
 use Rattle.machine.specs.Run.{quiet, tally, oneMore, beatsMore, beginning, mostBeats, runOf}
 use Rattle.machine.specs.Theorems.{ticks, finishedIn, RunIsBeats}
-use Rattle.machine.proofs.Common.{by-cond, all-alike}
+use Rattle.machine.proofs.Common.{all-alike}
 
 -- the counts of words
 tally-length : (bs : List Bool) (ns : List ℕ) → length (tally bs ns) ≡ length ns

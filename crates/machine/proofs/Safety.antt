@@ -8,6 +8,7 @@ use lib.Dec.{ltb, eqb}
 use lib.ListN.{length, getD, set, List·getD-eq-default}
 use lib.Seq.{getD-set-same, getD-set-other}
 use borrow.Author.Tests.{ltb-true, ltb-false, eqb-true, eqb-false, eq-eqb, ne-eqb}
+use Rattle.laws.proofs.Tests.{by-test, and-left, by-cond}
 use Rattle.word.specs.Profile.{Profile, wordsOf, enginesOf}
 use Rattle.word.specs.declared.Address.{Address}
 use Rattle.plan.specs.declared.EnginePlan.{EnginePlan}
@@ -35,8 +36,7 @@ use Rattle.machine.specs.Calls.{Call, beat, run, burst, readInterrupts, 
 use Rattle.machine.specs.Trace.{Seen, Trace, begun, withChip, traceTurn, traceTurns, traceTickIf, traceTick, traceTicks, traceCall, traceOf}
 use Rattle.machine.specs.Safe.{wordAddress, endedAt, everEnded, PointsInside, TableSafe, FetchSafe, TurnSafe, Safe, none, more}
 use Rattle.machine.specs.Theorems.{Demand3}
-use Rattle.plan.proofs.Laws.{by-test, and-left}
-use Rattle.machine.proofs.Common.{by-cond, both, each-leaves}
+use Rattle.machine.proofs.Common.{both, each-leaves}
 use Rattle.machine.proofs.Closed.{isUsed, hasTable, Closed, accepted-closed}
 use Rattle.machine.proofs.Kept.{Core, core, Under, TableKept, Kept}
 use Rattle.machine.proofs.WordsKept.{good, no-return, same-address, fetched-word, beat-fine}

@@ -11,6 +11,7 @@ use lib.Dec.{leb, ltb, eqb}
 use lib.ListN.{length, getD, set}
 use lib.Seq.{getD-set-same, getD-set-other, set-out}
 use borrow.Author.Tests.{ltb-true, ltb-false, eqb-true, eqb-false, lt-ltb}
+use Rattle.laws.proofs.Tests.{by-test, by-cond}
 use Rattle.word.specs.Profile.{Profile, wordsOf}
 use Rattle.word.specs.declared.Step.{Step}
 use Rattle.word.specs.declared.Direction.{Direction}
@@ -41,8 +42,7 @@ use Rattle.machine.specs.Triggers.{triggers}
 use Rattle.machine.specs.TablePointers.{pointed, points}
 use Rattle.machine.specs.Words.{stops, begins}
 use Rattle.machine.specs.Turn.{addressOf, returned, starts, beatOf}
-use Rattle.plan.proofs.Laws.{by-test}
-use Rattle.machine.proofs.Common.{by-cond, words-most, or-false-left, all-alike}
+use Rattle.machine.proofs.Common.{words-most, or-false-left, all-alike}
 use Rattle.machine.proofs.Closed.{hasTable, topOf, bottomOf, start-top, end-bottom, row-inside, SoundWord, Closed}
 use Rattle.machine.proofs.Kept.{core, ended, lasting, Plain, lasting-plain, Under, endless, Points, Kept, TableEnds, firstThen, secondThen, ends-kept}
 

@@ -4,11 +4,10 @@ use Prim.Native.Nat.{ℕ, _+_}
 use mathlib.Core.Bool.{Bool, true, false, not, cond, _&&_, _||_}
 use mathlib.Core.List.{List}
 use lib.Dec.{ltb}
-use lib.ListN.{getD, set}
+use lib.ListN.{set}
 use Rattle.word.specs.Profile.{Profile, wordsOf}
 use Rattle.word.specs.Decode.{wordAt}
 use Rattle.word.specs.Steps.{stepAt}
-use Rattle.word.specs.declared.Word.{Word}
 use Rattle.word.specs.declared.Step.{Step}
 use Rattle.word.specs.declared.Address.{Address}
 use Rattle.machine.specs.declared.Mode.{Mode}

@@ -1,13 +1,14 @@
 -- Laws that the functions' proofs share.
 use Prim.Native.Nat.{ℕ, suc, _+_, _-_, _≤_, _<_}
-use mathlib.Core.Bool.{Bool, true, false, not, cond, _&&_, false≢true}
+use mathlib.Core.Bool.{Bool, true, false, cond, _&&_}
 use mathlib.Core.List.{List, [], _∷_}
 use mathlib.Core.Path.{_≡_, refl, sym, ap, _∙_}
 use native.Mathlib.Omega.{arith}
-use borrow.Author.Tests.{ltb-true, not-true, not-false}
+use borrow.Author.Tests.{ltb-true}
 use lib.Dec.{leb, ltb}
 use types.Run.{OneOf, miss}
 use denote.Enum.Declared.{tagOf}
+use Rattle.laws.proofs.Tests.{and-left, and-right}
 use Rattle.plan.specs.Verdict.{isAccept}
 use Rattle.word.specs.Profile.{Profile, LP5523}
 use Rattle.word.specs.Steps.{addressAt}
@@ -27,34 +28,6 @@ use Rattle.plan.specs.Tests.{ordered, inOrder, inCode, allIn, successors
 use Rattle.plan.specs.Strays.{firstOutside, strayOf}
 use Rattle.plan.specs.internal.Passes.{orElse, scan, wordVerdict, wordsVerdict, rowsVerdict, codeVerdict, tableVerdict, isInside}
 use Rattle.plan.proofs.Verdict.{the-type}
-
--- what an arm of a match gives, of the value that is known there
-pub via : {A B : Type 0} (f : A → B) {x y : A} {r : B} → r ≡ f y → x ≡ y → r ≡ f x
-via f p e = p ∙ ap f (sym e)
-
--- a fact, from each case of a test
-pub by-test : {A : Type 0} (b : Bool) → (b ≡ true → A) → (b ≡ false → A) → A
-by-test true f g = f refl
-by-test false f g = g refl
-
-pub and-true : (b : Bool) → (b && true) ≡ b
-and-true true = refl
-and-true false = refl
-
-pub and-left : (a b : Bool) → (a && b) ≡ true → a ≡ true
-and-left true b e = refl
-and-left false b e = e
-
-pub and-right : (a b : Bool) → (a && b) ≡ true → b ≡ true
-and-right true b e = e
-and-right false b e = absurd (false≢true e)
-
--- what a test `!f(..)` tells, by what f ensures
-pub failed : {r s : Bool} → r ≡ s → not r ≡ true → s ≡ false
-failed {r} e t = sym e ∙ not-true r t
-
-pub passed : {r s : Bool} → r ≡ s → not r ≡ false → s ≡ true
-passed {r} e t = sym e ∙ not-false r t
 
 -- the first of two verdicts that refuses
 pub or-accept : (v w : Verdict) → isAccept v ≡ true → orElse v w ≡ w

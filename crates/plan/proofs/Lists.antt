@@ -6,6 +6,7 @@ use mathlib.Core.Path.{_≡_, subst}
 use native.Mathlib.Omega.{arith}
 use lib.Dec.{eqb}
 use borrow.Author.Tests.{eqb-true, eqb-false}
+use Rattle.laws.proofs.Tests.{by-test}
 use Rattle.word.specs.Profile.{Profile, LP5523, upward}
 use Rattle.word.specs.declared.Address.{Address}
 use Rattle.plan.specs.declared.EnginePlan.{EnginePlan}
@@ -16,7 +17,6 @@ use Rattle.plan.specs.Ranges.{planAt, InRange, InCode, InTable, addresse
 use Rattle.plan.specs.Conditions.{AllIn}
 use Rattle.plan.specs.Check.{engineNumbers, joined}
 use Rattle.plan.specs.Theorems.{AllOf}
-use Rattle.plan.proofs.Laws.{by-test}
 
 -- lists of numbers
 pub all-map : {R S : ℕ → Type 0} → ((x : ℕ) → R x → S x) → (xs : List ℕ) → AllIn R xs → AllIn S xs

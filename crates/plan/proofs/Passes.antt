@@ -6,6 +6,7 @@ use mathlib.Core.Path.{_≡_, refl, sym, ap, _∙_}
 use borrow.Author.Tests.{eq-eqb, ne-eqb}
 use lib.ListN.{length, getD}
 use lib.Dec.{eqb}
+use Rattle.laws.proofs.Tests.{by-test}
 use Rattle.plan.specs.Verdict.{isAccept}
 use Rattle.word.specs.Profile.{Profile, LP5523, upward}
 use Rattle.word.specs.Steps.{addressAt}
@@ -19,7 +20,7 @@ use Rattle.word.specs.Decode.{wordAt}
 use Rattle.plan.specs.Tests.{holds, inOrder, opensTable}
 use Rattle.plan.specs.Check.{engineNumbers, joined, ofWord, ofRow, ofEngine, firstFailing, checkOf, checkRangesOf}
 use Rattle.plan.specs.internal.Passes.{orElse, scan, orderVerdict, apartVerdict, wordVerdict, wordsVerdict, rowVerdict, rowsVerdict, codeVerdict, tableVerdict, engineVerdict, enginesVerdict}
-use Rattle.plan.proofs.Laws.{by-test, is-accept, or-accept, or-refused}
+use Rattle.plan.proofs.Laws.{is-accept, or-accept, or-refused}
 
 -- the first failing of two lists
 or-none : (v : Verdict) → orElse v Accept ≡ v

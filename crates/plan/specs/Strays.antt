@@ -1,6 +1,6 @@
 -- The successor of a word by which 14 is given: the first, in the order of `successorsOf`, that lies outside the engine's own code.
 use Prim.Native.Nat.{ℕ}
-use mathlib.Core.Bool.{Bool, true, false, cond}
+use mathlib.Core.Bool.{Bool, cond}
 use mathlib.Core.List.{List, [], _∷_}
 use Rattle.word.specs.declared.Flow.{Flow}
 use Rattle.plan.specs.declared.EnginePlan.{EnginePlan}

@@ -9,7 +9,6 @@ use Rattle.word.specs.Profile.{Profile, wordsOf}
 use Rattle.word.specs.Classes.{flowOf, tableUseOf, isUndefined}
 use Rattle.word.specs.declared.Address.{Address}
 use Rattle.word.specs.declared.Flow.{Flow}
-use Rattle.word.specs.declared.Flow.the-variants.{Next, Restart, Stop, Loop, LoopVar, Skip, Fault}
 use Rattle.word.specs.declared.TableUse.{TableUse}
 use Rattle.word.specs.declared.TableUse.the-variants.{Nothing, StartAt, EndAt, RowAt, Forward, Backward}
 use Rattle.plan.specs.declared.EnginePlan.{EnginePlan}

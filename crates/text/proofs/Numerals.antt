@@ -8,10 +8,10 @@ use native.Mathlib.Omega.{arith}
 use borrow.Author.Tests.{ne-eqb, le-leb, lt-ltb, le-ltb, ltb-true, ltb-false, leb-true, eqb-false, not-true}
 use lib.Dec.{eqb, leb, ltb}
 use lib.ListN.{length, getD}
+use Rattle.laws.proofs.Tests.{by-test}
 use Rattle.text.specs.Bytes.{lacks, isWord}
 use Rattle.text.specs.Number.{isDigit, allDigits, numberFrom, numberOf, isNumber, readNumber, digits, decimalOf}
 use Rattle.text.specs.declared.Decimal.the-variants.{Number, Malformed, Outside}
-use Rattle.text.proofs.Turns.{by-test}
 use Rattle.text.proofs.Numbers.{number-digits}
 use Rattle.text.proofs.Values.{word-made}
 

@@ -8,8 +8,8 @@ use borrow.Author.Tests.{leb-true, leb-false}
 use lib.Dec.{leb}
 use lib.ListN.{length, set, drop, length-append}
 use lib.Seq.{sets, length-sets, sets-eq, set-out}
+use Rattle.laws.proofs.Tests.{by-test}
 use Rattle.text.specs.Put.{lastPlace, Put}
-use Rattle.text.proofs.Turns.{by-test}
 
 sets-append : (s t d : List ℕ) (at : ℕ) → sets d at (s ++ t) ≡ sets (sets d at s) (at + length s) t
 sets-append [] t d at = rw add-zero

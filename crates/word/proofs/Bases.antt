@@ -1,5 +1,5 @@
 -- The bases of the table leave room for the fields. Assumes nothing.
-use Prim.Native.Nat.{ℕ, _≤_}
+use Prim.Native.Nat.{_≤_}
 use native.Mathlib.Omega.{arith}
 use Rattle.word.specs.declared.JumpOp.{JumpOp}
 use Rattle.word.specs.declared.JumpOp.the-variants.{Jne, Jl, Jge, Je}

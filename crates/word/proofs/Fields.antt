@@ -1,28 +1,17 @@
 -- What it says of a number to lie in a field, over the field's ranges, and what a coded word tells of its operands. Assumes nothing.
-use Prim.Native.Nat.{ℕ, _+_, _≤_, _<_, min, max}
+use Prim.Native.Nat.{ℕ, _≤_, _<_}
 use mathlib.Core.Bool.{Bool, true, false, cond, _&&_, _||_, false≢true}
 use mathlib.Core.List.{List, [], _∷_, map}
-use mathlib.Core.Path.{_≡_, refl, sym, ap, _∙_}
+use mathlib.Core.Path.{_≡_, refl, ap, _∙_}
 use native.Mathlib.Omega.{arith}
 use lib.Dec.{leb, leb·zero}
 use borrow.Author.Tests.{leb-true, le-leb, lt-leb}
+use Rattle.laws.proofs.Tests.{and-false, and-left, and-right, or-false}
 use Rattle.word.specs.Profile.{Profile, LP5523, wordsOf, allEngines, Range, _to_, outputRanges}
 use Rattle.word.specs.Field.{upto, inside, rangesOf}
 use Rattle.word.specs.Answer.{Answer, success, refusal}
-use Rattle.word.specs.Table.{Operand, Line, line, none, fits, every, judged, encodeLine}
-use Rattle.word.specs.Theorems.{operandsIn, leastOf, mostOf, Between, AllWithin}
-
-pub and-false : (a : Bool) → (a && false) ≡ false
-and-false true = refl
-and-false false = refl
-
-pub and-left : (a b : Bool) → (a && b) ≡ true → a ≡ true
-and-left true b e = refl
-and-left false b e = e
-
-pub and-right : (a b : Bool) → (a && b) ≡ true → b ≡ true
-and-right true b e = e
-and-right false b e = absurd (false≢true e)
+use Rattle.word.specs.Table.{Operand, Line, line, none, fits, every, encodeLine}
+use Rattle.word.specs.Theorems.{operandsIn, Between, AllWithin}
 
 -- ---- a number and the first of some ranges
 pub in-none : (n : ℕ) → inside [] n ≡ false
@@ -40,11 +29,6 @@ above-range a b n rs p = simp (lt-leb n b p, and-false (leb a n))
 pub below-range : (a b n : ℕ) (rs : List Range) → n < a → inside (a to b ∷ rs) n ≡ inside rs n
 unfolding inside
 below-range a b n rs p = simp (lt-leb a n p)
-
--- ---- the ranges from 0
-or-false : (a : Bool) → (a || false) ≡ a
-or-false true = refl
-or-false false = refl
 
 pub inside-upto : (m n : ℕ) → inside (upto m) n ≡ leb n m
 unfolding inside

@@ -7,10 +7,10 @@ use mathlib.Core.Path.{_≡_, refl, sym}
 use native.Mathlib.Omega.{arith}
 use lib.Dec.{leb, eqb}
 use borrow.Author.Tests.{leb-true, lt-ltb, le-ltb, eqb-true}
+use Rattle.laws.proofs.Tests.{and-left, and-right}
 use Rattle.word.specs.declared.Word.{Word}
 use Rattle.word.specs.declared.Word.the-variants.{Undefined}
 use Rattle.word.specs.Decode.{Row, choose, rows, reading}
-use Rattle.word.proofs.Fields.{and-left, and-right}
 
 -- each limit is at least the one before it, a
 abbrev pub ascend : ℕ → List Row → Bool

@@ -1,5 +1,5 @@
 -- The theorems of specs/Theorems.antt, under its names. Assumes nothing.
-use Prim.Native.Nat.{ℕ, zero, suc, _+_, _*_, _/_, _%_, _≤_, _<_}
+use Prim.Native.Nat.{ℕ, zero, suc, _+_, _*_, _%_, _≤_, _<_}
 use mathlib.Core.Bool.{Bool, true, false, cond, _&&_, true≢false}
 use mathlib.Core.List.{List, [], _∷_, map}
 use mathlib.Core.Logic.{_↔_}
@@ -7,6 +7,7 @@ use mathlib.Core.Path.{_≡_, refl, sym, _∙_, ap, subst}
 use native.Mathlib.Omega.{arith}
 use lib.Dec.{ltb, eqb}
 use borrow.Author.Tests.{eqb-true, eq-eqb, ltb-true, ltb-false}
+use Rattle.laws.proofs.Tests.{and-left, and-right, and-false}
 use Rattle.word.specs.declared.Direction.the-variants.{Up, Down}
 use Rattle.word.specs.declared.JumpOp.the-variants.{Jne, Jl, Jge, Je}
 use Rattle.word.specs.declared.ArithOp.the-variants.{Ld, Add, Sub}
@@ -22,8 +23,8 @@ use Rattle.word.specs.Table.{Operand, Line, line, none, lineOf, fits, ev
 use Rattle.word.specs.Decode.{choose, ramps, rampVars, sums, rows, reading, isSuccess, decodeOf}
 use Rattle.word.specs.Steps.{stepAt, addressAt}
 use Rattle.word.specs.Theorems.{EncodedDecodes, OneWordPerCode, SixteenBits, DecodedEncodes, UndefinedExactly, operandsIn, operandsOf, SomeOutside, here, later, Refuses13, Refuses22, RefusesUpByZero, Succeeds, AllWithin, OperandsWithin, AddressWithin, StepWithin}
-use Rattle.word.proofs.Fields.{and-left, and-right, and-false, codeIn, parts, words-fit, words-positive, engines-fit, outputs-fit}
-use Rattle.word.proofs.Rows.{before, caseAt, chosen, past, read-row}
+use Rattle.word.proofs.Fields.{codeIn, parts, words-fit, words-positive, engines-fit, outputs-fit}
+use Rattle.word.proofs.Rows.{chosen, past, read-row}
 
 -- a case of two or three operands, from what its operands are
 ap₂ : {A : Type 0} (f : ℕ → ℕ → A) {a a′ b b′ : ℕ} → (a ≡ a′) × (b ≡ b′) → f a b ≡ f a′ b′

@@ -1,16 +1,12 @@
 -- `beats::beats::any` meets its contract.
-use mathlib.Core.Bool.{Bool, true, false, _||_}
-use mathlib.Core.Path.{_≡_, refl}
+use mathlib.Core.Path.{sym}
 use borrow.Author.Needs.{needs}
+use Rattle.laws.proofs.Tests.{or-false}
 use Rattle.beats.proofs.beats.any.Statement.{statement}
 use Rattle.beats.proofs.beats.any.Tie as tie
 
-or-false : (b : Bool) → b ≡ (b || false)
-or-false true = refl
-or-false false = refl
-
 returns-3 : tie.Need-returns-3
-returns-3 c = rw (c .before .if1 .left, c .if2 .left) (or-false _)
+returns-3 c = rw (c .before .if1 .left, c .if2 .left) (sym (or-false _))
 
 pub any-spec : {M : Type 1} → statement M
 any-spec = tie.close (tie.spec (λ c. search needs) (λ c. search needs) returns-3)

@@ -2,7 +2,7 @@
 use mathlib.Core.Bool.{Bool, true, false, _&&_}
 use mathlib.Core.Path.{_≡_, sym, _∙_, ap}
 use borrow.Author.Needs.{needs}
-use Rattle.plan.proofs.Laws.{failed, passed, and-true}
+use Rattle.laws.proofs.Tests.{failed, passed, and-true}
 use Rattle.beats.proofs.idle.all_idle.Statement.{statement}
 use Rattle.beats.proofs.idle.all_idle.Tie as tie
 

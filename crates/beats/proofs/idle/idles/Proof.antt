@@ -1,6 +1,6 @@
 -- `beats::idle::idles` meets its contract.
 use borrow.Author.Needs.{needs}
-use Rattle.plan.proofs.Laws.{failed, passed}
+use Rattle.laws.proofs.Tests.{failed, passed}
 use Rattle.beats.proofs.idle.idles.Statement.{statement}
 use Rattle.beats.proofs.idle.idles.Tie as tie
 

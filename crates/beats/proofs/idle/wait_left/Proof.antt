@@ -1,6 +1,6 @@
 -- `beats::idle::wait_left` meets its contract.
 use borrow.Author.Needs.{needs}
-use Rattle.plan.proofs.Laws.{failed, passed}
+use Rattle.laws.proofs.Tests.{failed, passed}
 use Rattle.beats.proofs.idle.wait_left.Statement.{statement}
 use Rattle.beats.proofs.idle.wait_left.Tie as tie
 

@@ -3,8 +3,8 @@ use Prim.Native.Nat.{ℕ}
 use mathlib.Core.Path.{refl}
 use native.Mathlib.Omega.{arith}
 use borrow.Author.Needs.{needs}
+use Rattle.laws.proofs.Matches.{via}
 use Rattle.word.specs.Profile.{LP5523}
-use Rattle.plan.proofs.Laws.{via}
 use Rattle.machine.specs.Parts.{bit}
 use Rattle.machine.specs.Outputs.{rowBit}
 use Rattle.machine.proofs.RowBits.{row-bit}

@@ -1,7 +1,7 @@
 -- `beats::outputs::moved` meets its contract.
 use borrow.Author.Needs.{needs}
 use native.Mathlib.Omega.{arith}
-use Rattle.plan.proofs.Laws.{via}
+use Rattle.laws.proofs.Matches.{via}
 use Rattle.machine.specs.Outputs.{moved}
 use Rattle.beats.proofs.outputs.moved.Statement.{statement}
 use Rattle.beats.proofs.outputs.moved.Tie as tie

@@ -1,7 +1,7 @@
 -- `beats::outputs::with_effect` meets its contract.
 use borrow.Author.Needs.{needs}
 use mathlib.Core.Path.{sym}
-use Rattle.plan.proofs.Laws.{via}
+use Rattle.laws.proofs.Matches.{via}
 use Rattle.beats.specs.internal.Parts.{levelsAfter}
 use Rattle.beats.proofs.Levels.{levels-kept}
 use Rattle.beats.proofs.outputs.with_effect.Statement.{statement}

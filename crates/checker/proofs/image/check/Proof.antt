@@ -1,8 +1,8 @@
 -- `checker::image::check` meets its contract: the order of 01 is the order of the calls.
 use mathlib.Core.Path.{sym, ap, _∙_}
-use borrow.Author.Needs.{needs}
+use Rattle.laws.proofs.Tests.{failed, passed}
 use Rattle.plan.specs.Verdict.{isAccept}
-use Rattle.plan.proofs.Laws.{failed, passed, stops, goes-on}
+use Rattle.plan.proofs.Laws.{stops, goes-on}
 use Rattle.plan.proofs.Passes.{wrong-length, right-length, all-in-order}
 use Rattle.checker.proofs.image.check.Statement.{statement}
 use Rattle.checker.proofs.image.check.Tie as tie

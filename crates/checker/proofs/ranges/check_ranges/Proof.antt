@@ -1,4 +1,5 @@
-use Rattle.plan.proofs.Laws.{failed, passed, stops, goes-on}
+use Rattle.laws.proofs.Tests.{failed, passed}
+use Rattle.plan.proofs.Laws.{stops, goes-on}
 use Rattle.plan.proofs.Passes.{ranges}
 use Rattle.checker.proofs.ranges.check_ranges.Statement.{statement}
 use Rattle.checker.proofs.ranges.check_ranges.Tie as tie

@@ -1,6 +1,6 @@
 -- `checker::successors::first_outside` meets its contract.
 use borrow.Author.Needs.{needs}
-use Rattle.plan.proofs.Laws.{failed, passed}
+use Rattle.laws.proofs.Tests.{failed, passed}
 use Rattle.checker.proofs.successors.first_outside.Statement.{statement}
 use Rattle.checker.proofs.successors.first_outside.Tie as tie
 

@@ -2,6 +2,7 @@
 use Prim.Native.Nat.{ℕ}
 use mathlib.Core.Path.{_≡_, refl}
 use borrow.Author.Needs.{needs}
+use Rattle.laws.proofs.Matches.{via}
 use Rattle.word.specs.declared.Flow.{Flow}
 use Rattle.plan.specs.declared.EnginePlan.{EnginePlan}
 use Rattle.plan.specs.declared.Stray.{Stray}
@@ -9,7 +10,6 @@ use Rattle.plan.specs.Ranges.{firstOf}
 use Rattle.plan.specs.Conditions.{successorsOf}
 use Rattle.plan.specs.Tests.{inCode}
 use Rattle.plan.specs.Strays.{firstOutside, strayOf}
-use Rattle.plan.proofs.Laws.{via}
 use Rattle.checker.proofs.successors.first_stray.Statement.{statement}
 use Rattle.checker.proofs.successors.first_stray.Tie as tie
 

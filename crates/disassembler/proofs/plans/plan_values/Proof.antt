@@ -1,7 +1,7 @@
 -- `disassembler::plans::plan_values` meets its contract: each arm knows its case.
 use borrow.Author.Needs.{needs}
+use Rattle.laws.proofs.Matches.{via}
 use Rattle.plan.specs.declared.EnginePlan.{EnginePlan}
-use Rattle.plan.proofs.Laws.{via}
 use Rattle.grammar.specs.Tables.{valuesOf}
 use Rattle.asm.specs.PlanLines.{planValues}
 use Rattle.disassembler.proofs.plans.plan_values.Statement.{statement}

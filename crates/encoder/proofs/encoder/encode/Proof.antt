@@ -1,17 +1,14 @@
 -- `encoder::encoder::encode` meets its contract: each arm's call ensures the table's line, and the arm knows its case. Assumes nothing.
-use mathlib.Core.Path.{_≡_, refl, sym, _∙_, ap}
+use mathlib.Core.Path.{refl, ap}
 use native.Mathlib.Omega.{arith}
 use lib.Dec.{lit<}
-use Rattle.word.specs.declared.Word.{Word}
+use Rattle.laws.proofs.Matches.{via}
 use Rattle.word.specs.Profile.{LP5523}
-use Rattle.word.specs.Answer.{Answer, success}
+use Rattle.word.specs.Answer.{success}
 use Rattle.word.specs.Table.{encodeOf}
 use Rattle.word.proofs.Bases.{jump-fits, arith-fits, arith-var-fits, mux-at-fits}
 use Rattle.encoder.proofs.encoder.encode.Statement.{statement}
 use Rattle.encoder.proofs.encoder.encode.Tie as tie
-
-arm : {i j : Word} {r : Answer} → r ≡ encodeOf LP5523 j → i ≡ j → r ≡ encodeOf LP5523 i
-arm p e = p ∙ ap (encodeOf LP5523) (sym e)
 
 pub encode-spec : {M : Type 1} → statement M
 encode-spec =
@@ -55,22 +52,22 @@ encode-spec =
     (λ c. c .match .keys18)
     (λ c κs. tt)
     (λ c. c .match .keys19)
-    (λ c. arm refl (c .enum-told .given .1))
-    (λ c. arm (c .ramp .ensures) (c .before .before .word .given .1))
-    (λ c. arm (c .wait .ensures) (c .before .before .word2 .given .1))
-    (λ c. arm (c .one .ensures) (c .before .before .word3 .given .1))
-    (λ c. arm (c .ramp-var .ensures) (c .before .before .word4 .given .1))
-    (λ c. arm (c .one2 .ensures) (c .before .before .word5 .given .1))
-    (λ c. arm (c .two .ensures) (c .before .before .word6 .given .1))
-    (λ c. arm (rw (c .before .jump-base .ensures) at (c .three .ensures)) (c .before .before .before .word7 .given .1))
-    (λ c. arm (rw (c .before .arith-base .ensures) at (c .two2 .ensures)) (c .before .before .before .word8 .given .1))
-    (λ c. arm (rw (c .before .arith-var-base .ensures) at (c .three2 .ensures)) (c .before .before .before .word9 .given .1))
-    (λ c. arm (rw (c .before .mux-at-base .ensures) at (c .one3 .ensures)) (c .before .before .before .word10 .given .1))
-    (λ c. arm refl (c .enum-told2 .given .1))
-    (λ c. arm (c .mux-sel .ensures) (c .before .before .word11 .given .1))
-    (λ c. arm (ap success (c .mux-move-code .ensures)) (c .before .before .word12 .given .1))
-    (λ c. arm (c .two3 .ensures) (c .before .before .word13 .given .1))
-    (λ c. arm (c .scaled .ensures) (c .before .before .word14 .given .1))
-    (λ c. arm refl (c .enum-told3 .given .1))
-    (λ c. arm (c .trigger .ensures) (c .before .before .word15 .given .1))
-    (λ c. arm refl (c .enum-told4 .given .1)))
+    (λ c. via (encodeOf LP5523) refl (c .enum-told .given .1))
+    (λ c. via (encodeOf LP5523) (c .ramp .ensures) (c .before .before .word .given .1))
+    (λ c. via (encodeOf LP5523) (c .wait .ensures) (c .before .before .word2 .given .1))
+    (λ c. via (encodeOf LP5523) (c .one .ensures) (c .before .before .word3 .given .1))
+    (λ c. via (encodeOf LP5523) (c .ramp-var .ensures) (c .before .before .word4 .given .1))
+    (λ c. via (encodeOf LP5523) (c .one2 .ensures) (c .before .before .word5 .given .1))
+    (λ c. via (encodeOf LP5523) (c .two .ensures) (c .before .before .word6 .given .1))
+    (λ c. via (encodeOf LP5523) (rw (c .before .jump-base .ensures) at (c .three .ensures)) (c .before .before .before .word7 .given .1))
+    (λ c. via (encodeOf LP5523) (rw (c .before .arith-base .ensures) at (c .two2 .ensures)) (c .before .before .before .word8 .given .1))
+    (λ c. via (encodeOf LP5523) (rw (c .before .arith-var-base .ensures) at (c .three2 .ensures)) (c .before .before .before .word9 .given .1))
+    (λ c. via (encodeOf LP5523) (rw (c .before .mux-at-base .ensures) at (c .one3 .ensures)) (c .before .before .before .word10 .given .1))
+    (λ c. via (encodeOf LP5523) refl (c .enum-told2 .given .1))
+    (λ c. via (encodeOf LP5523) (c .mux-sel .ensures) (c .before .before .word11 .given .1))
+    (λ c. via (encodeOf LP5523) (ap success (c .mux-move-code .ensures)) (c .before .before .word12 .given .1))
+    (λ c. via (encodeOf LP5523) (c .two3 .ensures) (c .before .before .word13 .given .1))
+    (λ c. via (encodeOf LP5523) (c .scaled .ensures) (c .before .before .word14 .given .1))
+    (λ c. via (encodeOf LP5523) refl (c .enum-told3 .given .1))
+    (λ c. via (encodeOf LP5523) (c .trigger .ensures) (c .before .before .word15 .given .1))
+    (λ c. via (encodeOf LP5523) refl (c .enum-told4 .given .1)))

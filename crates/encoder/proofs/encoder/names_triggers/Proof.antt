@@ -1,6 +1,6 @@
 -- `encoder::encoder::names_triggers` meets its contract. Assumes nothing.
 use native.Mathlib.Omega.{arith}
-use mathlib.Core.Path.{_≡_, sym, _∙_}
+use mathlib.Core.Path.{sym, _∙_}
 use Rattle.word.proofs.Fields.{in-none, in-range, above-range, below-range, from-least, inside-upto}
 use Rattle.encoder.proofs.encoder.names_triggers.Statement.{statement}
 use Rattle.encoder.proofs.encoder.names_triggers.Tie as tie

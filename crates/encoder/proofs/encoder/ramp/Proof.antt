@@ -3,14 +3,15 @@ use Prim.Native.Nat.{ℕ, _<_}
 use mathlib.Core.List.{[], _∷_}
 use mathlib.Core.Path.{_≡_}
 use borrow.Author.Needs.{needs}
+use Rattle.laws.proofs.Tests.{and-false}
 use Rattle.word.specs.declared.Direction.{Direction}
 use Rattle.word.specs.declared.Direction.the-variants.{Up, Down}
 use Rattle.word.specs.declared.Word.the-variants.{Ramp}
-use Rattle.word.specs.Profile.{LP5523, _to_}
+use Rattle.word.specs.Profile.{_to_, LP5523}
 use Rattle.word.specs.Field.{upto, inside}
 use Rattle.word.specs.Answer.{refusal}
 use Rattle.word.specs.Table.{encodeOf}
-use Rattle.word.proofs.Fields.{and-false, from-least, under-least}
+use Rattle.word.proofs.Fields.{from-least, under-least}
 use Rattle.encoder.proofs.encoder.ramp.Statement.{statement}
 use Rattle.encoder.proofs.encoder.ramp.Tie as tie
 

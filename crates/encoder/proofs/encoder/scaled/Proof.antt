@@ -1,7 +1,7 @@
 -- `encoder::encoder::scaled` meets its contract: a product within its field is at most that of the field's greatest number. Assumes nothing.
 use native.Mathlib.Nat.{mul-le-mul-left}
 use native.Mathlib.Omega.{arith}
-use Rattle.word.proofs.Fields.{in-upto, out-upto, and-false}
+use Rattle.word.proofs.Fields.{in-upto, out-upto}
 use Rattle.encoder.proofs.encoder.scaled.Statement.{statement}
 use Rattle.encoder.proofs.encoder.scaled.Tie as tie
 

@@ -2,10 +2,9 @@
 use mathlib.Core.Bool.{true}
 use mathlib.Core.Path.{_≡_, _∙_, sym}
 use borrow.Author.Needs.{needs}
-use native.Mathlib.Omega.{arith}
 use Rattle.word.specs.Profile.{LP5523}
 use Rattle.word.specs.Field.{triggers, rangesOf, inside}
-use Rattle.word.proofs.Fields.{and-false, in-upto, between}
+use Rattle.word.proofs.Fields.{in-upto, between}
 use Rattle.encoder.proofs.encoder.trigger.Statement.{statement}
 use Rattle.encoder.proofs.encoder.trigger.Tie as tie
 

@@ -1,8 +1,8 @@
 -- `encoder::encoder::wait` meets its contract. Assumes nothing.
 use borrow.Author.Needs.{needs}
-use mathlib.Core.Bool.{false, _&&_}
+use Rattle.laws.proofs.Tests.{and-false}
 use Rattle.word.specs.Field.{upto, inside}
-use Rattle.word.proofs.Fields.{and-false, from-least, under-least}
+use Rattle.word.proofs.Fields.{from-least, under-least}
 use Rattle.encoder.proofs.encoder.wait.Statement.{statement}
 use Rattle.encoder.proofs.encoder.wait.Tie as tie
 

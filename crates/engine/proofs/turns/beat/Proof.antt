@@ -1,8 +1,8 @@
 -- `engine::turns::beat` meets its contract.
 use borrow.Author.Needs.{needs}
+use Rattle.laws.proofs.Matches.{via}
 use Rattle.word.specs.Profile.{LP5523}
 use Rattle.machine.specs.Turn.{beatOf}
-use Rattle.plan.proofs.Laws.{via}
 use Rattle.engine.proofs.turns.beat.Statement.{statement}
 use Rattle.engine.proofs.turns.beat.Tie as tie
 

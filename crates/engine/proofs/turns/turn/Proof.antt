@@ -1,7 +1,7 @@
 -- `engine::turns::turn` meets its contract.
 use mathlib.Core.List.{[]}
 use borrow.Author.Needs.{needs}
-use Rattle.plan.proofs.Laws.{failed, passed}
+use Rattle.laws.proofs.Tests.{failed, passed}
 use Rattle.engine.proofs.turns.turn.Statement.{statement}
 use Rattle.engine.proofs.turns.turn.Tie as tie
 

@@ -1,9 +1,9 @@
 -- `engine::words::begins` meets its contract: each arm knows its case.
 use native.Mathlib.Omega.{arith}
 use borrow.Author.Needs.{needs}
+use Rattle.laws.proofs.Matches.{via}
 use Rattle.word.specs.Profile.{LP5523}
 use Rattle.machine.specs.Words.{begins}
-use Rattle.plan.proofs.Laws.{via}
 use Rattle.engine.proofs.Later.{from-6}
 use Rattle.engine.proofs.words.begins.Statement.{statement}
 use Rattle.engine.proofs.words.begins.Tie as tie

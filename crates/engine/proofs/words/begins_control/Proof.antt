@@ -1,9 +1,9 @@
 -- `engine::words::begins_control` meets its contract: each arm knows its case.
 use native.Mathlib.Omega.{arith}
 use borrow.Author.Needs.{needs}
+use Rattle.laws.proofs.Matches.{via}
 use Rattle.word.specs.Profile.{LP5523}
 use Rattle.machine.specs.Words.{begins}
-use Rattle.plan.proofs.Laws.{via}
 use Rattle.engine.proofs.Later.{from-18, undefined}
 use Rattle.engine.proofs.words.begins_control.Statement.{statement}
 use Rattle.engine.proofs.words.begins_control.Tie as tie

@@ -1,7 +1,7 @@
 -- `engine_core::acting::acts` meets its contract.
 use mathlib.Core.Path.{sym, _∙_}
 use borrow.Author.Needs.{needs}
-use Rattle.plan.proofs.Laws.{failed, passed}
+use Rattle.laws.proofs.Tests.{failed, passed}
 use Rattle.engine_core.proofs.acting.acts.Statement.{statement}
 use Rattle.engine_core.proofs.acting.acts.Tie as tie
 

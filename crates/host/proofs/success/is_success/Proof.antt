@@ -6,11 +6,11 @@ use mathlib.Core.Path.{_≡_, refl}
 use borrow.Author.Needs.{needs}
 use types.Run.{OneOf, miss}
 use denote.Enum.Declared.{tagOf}
+use Rattle.laws.proofs.Matches.{via}
 use Rattle.machine.proofs.Outcome.{the-type}
 use Rattle.machine.specs.declared.Outcome.{Outcome}
 use Rattle.machine.specs.declared.Outcome.the-variants.{Success, EmptyBurst, UnlistedAddress, OutsideRegister, LoadRefused, StartInUse, MemoryInUse, OutputHeld, TooManyBeats}
 use Rattle.machine.specs.Burst.{succeeds}
-use Rattle.plan.proofs.Laws.{via}
 use Rattle.host.proofs.success.is_success.Statement.{statement}
 use Rattle.host.proofs.success.is_success.Tie as tie
 

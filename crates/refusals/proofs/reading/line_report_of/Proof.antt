@@ -1,13 +1,8 @@
 -- `refusals::reading::line_report_of` meets its contract: each arm's call ensures the case's report, and the arm knows its case.
-use mathlib.Core.Path.{_≡_, sym, ap, _∙_}
-use Rattle.asm.specs.declared.Assembled.{Assembled}
-use Rattle.asm.specs.declared.LineReport.{LineReport}
+use Rattle.laws.proofs.Matches.{via}
 use Rattle.asm.specs.Answers.{lineReportOf}
 use Rattle.refusals.proofs.reading.line_report_of.Statement.{statement}
 use Rattle.refusals.proofs.reading.line_report_of.Tie as tie
-
-arm : {v w : Assembled} {r : LineReport} → r ≡ lineReportOf w → v ≡ w → r ≡ lineReportOf v
-arm p e = p ∙ ap lineReportOf (sym e)
 
 pub line-report-of-spec : {M : Type 1} → statement M
 line-report-of-spec =
@@ -29,11 +24,11 @@ line-report-of-spec =
     (λ c κs. tt)
     (λ c. c .match .keys8)
     (λ c κs. tt)
-    (λ c. arm (c .reported .ensures) (c .before .enum-told .given .1))
-    (λ c. arm (c .reported2 .ensures) (c .before .enum-told2 .given .1))
-    (λ c. arm (c .reported3 .ensures) (c .before .before .read .given .1))
-    (λ c. arm (c .reported4 .ensures) (c .before .before .read2 .given .1))
-    (λ c. arm (c .reported5 .ensures) (c .before .before .read3 .given .1))
-    (λ c. arm (c .reported6 .ensures) (c .before .enum-told3 .given .1))
-    (λ c. arm (c .reported7 .ensures) (c .before .enum-told4 .given .1))
-    (λ c. arm (c .reported8 .ensures) (c .before .enum-told5 .given .1)))
+    (λ c. via lineReportOf (c .reported .ensures) (c .before .enum-told .given .1))
+    (λ c. via lineReportOf (c .reported2 .ensures) (c .before .enum-told2 .given .1))
+    (λ c. via lineReportOf (c .reported3 .ensures) (c .before .before .read .given .1))
+    (λ c. via lineReportOf (c .reported4 .ensures) (c .before .before .read2 .given .1))
+    (λ c. via lineReportOf (c .reported5 .ensures) (c .before .before .read3 .given .1))
+    (λ c. via lineReportOf (c .reported6 .ensures) (c .before .enum-told3 .given .1))
+    (λ c. via lineReportOf (c .reported7 .ensures) (c .before .enum-told4 .given .1))
+    (λ c. via lineReportOf (c .reported8 .ensures) (c .before .enum-told5 .given .1)))

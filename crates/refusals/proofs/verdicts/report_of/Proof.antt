@@ -1,13 +1,8 @@
 -- `refusals::verdicts::report_of` meets its contract: each arm's call ensures the case's report, and the arm knows its case.
-use mathlib.Core.Path.{_≡_, sym, ap, _∙_}
-use Rattle.plan.specs.declared.Report.{Report}
-use Rattle.plan.specs.declared.Verdict.{Verdict}
+use Rattle.laws.proofs.Matches.{via}
 use Rattle.plan.specs.Verdict.{reportOf}
 use Rattle.refusals.proofs.verdicts.report_of.Statement.{statement}
 use Rattle.refusals.proofs.verdicts.report_of.Tie as tie
-
-arm : {v w : Verdict} {r : Report} → r ≡ reportOf w → v ≡ w → r ≡ reportOf v
-arm p e = p ∙ ap reportOf (sym e)
 
 pub report-of-spec : {M : Type 1} → statement M
 report-of-spec =
@@ -31,12 +26,12 @@ report-of-spec =
     (λ c κs. tt)
     (λ c. c .match .keys9)
     (λ c κs. tt)
-    (λ c. arm (c .reported .ensures) (c .before .enum-told .given .1))
-    (λ c. arm (c .reported2 .ensures) (c .before .enum-told2 .given .1))
-    (λ c. arm (c .reported3 .ensures) (c .before .before .verdict .given .1))
-    (λ c. arm (c .reported4 .ensures) (c .before .before .verdict2 .given .1))
-    (λ c. arm (c .reported5 .ensures) (c .before .before .verdict3 .given .1))
-    (λ c. arm (c .reported6 .ensures) (c .before .before .verdict4 .given .1))
-    (λ c. arm (c .reported7 .ensures) (c .before .before .verdict5 .given .1))
-    (λ c. arm (c .reported8 .ensures) (c .before .before .verdict6 .given .1))
-    (λ c. arm (c .reported9 .ensures) (c .before .before .verdict7 .given .1)))
+    (λ c. via reportOf (c .reported .ensures) (c .before .enum-told .given .1))
+    (λ c. via reportOf (c .reported2 .ensures) (c .before .enum-told2 .given .1))
+    (λ c. via reportOf (c .reported3 .ensures) (c .before .before .verdict .given .1))
+    (λ c. via reportOf (c .reported4 .ensures) (c .before .before .verdict2 .given .1))
+    (λ c. via reportOf (c .reported5 .ensures) (c .before .before .verdict3 .given .1))
+    (λ c. via reportOf (c .reported6 .ensures) (c .before .before .verdict4 .given .1))
+    (λ c. via reportOf (c .reported7 .ensures) (c .before .before .verdict5 .given .1))
+    (λ c. via reportOf (c .reported8 .ensures) (c .before .before .verdict6 .given .1))
+    (λ c. via reportOf (c .reported9 .ensures) (c .before .before .verdict7 .given .1)))

@@ -5,12 +5,12 @@ use mathlib.Core.List.{List, [], _∷_}
 use borrow.Author.Needs.{needs}
 use types.Run.{OneOf, miss}
 use denote.Enum.Declared.{tagOf}
+use Rattle.laws.proofs.Matches.{via}
 use Rattle.word.proofs.Word.{the-type}
 use Rattle.word.specs.declared.Word.{Word}
 use Rattle.word.specs.declared.Word.the-variants.{Rst, Ramp, Wait, Set, RampVar, SetVar, BranchVar, Jump, Arith, ArithVar, MuxAt, MuxClr, MuxSel, MuxMove, Branch, End, Int, Trigger, Undefined}
 use Rattle.word.specs.declared.TableUse.the-variants.{Nothing}
 use Rattle.word.specs.Classes.{tableUseOf}
-use Rattle.plan.proofs.Laws.{via}
 use Rattle.checker.proofs.image.classes.table_use_of.Statement.{statement}
 use Rattle.checker.proofs.image.classes.table_use_of.Tie as tie
 

@@ -6,13 +6,14 @@ use native.Mathlib.Omega.{arith}
 use borrow.Author.Needs.{needs}
 use types.Run.{OneOf, miss}
 use denote.Enum.Declared.{tagOf}
+use Rattle.laws.proofs.Tests.{failed, passed}
 use Rattle.word.specs.Profile.{LP5523}
 use Rattle.plan.specs.declared.EnginePlan.{EnginePlan}
 use Rattle.plan.specs.declared.EnginePlan.the-variants.{Unused, Code, CodeAndTable}
 use Rattle.plan.specs.declared.Verdict.the-variants.{Accept}
 use Rattle.plan.specs.internal.Passes.{tableVerdict}
 use Rattle.plan.proofs.EnginePlan.{the-type}
-use Rattle.plan.proofs.Laws.{failed, passed, code-beside-table-within, table-within, not-opened, opened}
+use Rattle.plan.proofs.Laws.{code-beside-table-within, table-within, not-opened, opened}
 use Rattle.checker.proofs.image.table.check_table.Statement.{statement}
 use Rattle.checker.proofs.image.table.check_table.Tie as tie
 

@@ -2,8 +2,8 @@
 use mathlib.Core.Path.{ap, _∙_}
 use borrow.Author.Tests.{lt-ltb, le-ltb}
 use borrow.Author.Needs.{needs}
+use Rattle.laws.proofs.Tests.{failed, passed}
 use Rattle.plan.specs.Conditions.{isStart, isEnd}
-use Rattle.plan.proofs.Laws.{failed, passed}
 use Rattle.checker.proofs.image.table.opens_table.Statement.{statement}
 use Rattle.checker.proofs.image.table.opens_table.Tie as tie
 

@@ -1,9 +1,10 @@
 -- `checker::image::words::check_word` meets its contract.
 use mathlib.Core.Path.{sym, ap, _∙_}
 use borrow.Author.Needs.{needs}
+use Rattle.laws.proofs.Tests.{failed, passed}
 use Rattle.plan.specs.internal.Passes.{wordVerdict}
 use Rattle.plan.specs.Tests.{usesOwnTable}
-use Rattle.plan.proofs.Laws.{failed, passed, undefined-word, successor-outside, table-misused, word-fits}
+use Rattle.plan.proofs.Laws.{undefined-word, successor-outside, table-misused, word-fits}
 use Rattle.checker.proofs.image.words.check_word.Statement.{statement}
 use Rattle.checker.proofs.image.words.check_word.Tie as tie
 

@@ -2,9 +2,10 @@
 use Prim.Native.Nat.{_+_, _-_}
 use mathlib.Core.Path.{_≡_, refl, sym, _∙_}
 use native.Mathlib.Omega.{arith}
+use Rattle.laws.proofs.Tests.{failed, passed}
 use Rattle.word.specs.Profile.{LP5523}
 use Rattle.plan.specs.internal.Passes.{wordsVerdict}
-use Rattle.plan.proofs.Laws.{failed, passed, scan-refused, scan-passed, scan-end}
+use Rattle.plan.proofs.Laws.{scan-refused, scan-passed, scan-end}
 use Rattle.checker.proofs.image.words.check_words.Statement.{statement}
 use Rattle.checker.proofs.image.words.check_words.Tie as tie
 

@@ -1,13 +1,9 @@
 -- `checker::ranges::apart::meets_some` meets its contract.
-use mathlib.Core.Path.{_≡_, refl, sym, _∙_}
-use mathlib.Core.Bool.{Bool, true, false, _||_}
+use mathlib.Core.Path.{sym, _∙_}
 use borrow.Author.Needs.{needs}
+use Rattle.laws.proofs.Tests.{or-false}
 use Rattle.checker.proofs.ranges.apart.meets_some.Statement.{statement}
 use Rattle.checker.proofs.ranges.apart.meets_some.Tie as tie
-
-or-false : (b : Bool) → (b || false) ≡ b
-or-false true = refl
-or-false false = refl
 
 pub meets-some-spec : {M : Type 1} → statement M
 meets-some-spec =

@@ -1,7 +1,7 @@
 -- `checker::ranges::order::check_order` meets its contract.
 use mathlib.Core.Path.{refl}
+use Rattle.laws.proofs.Tests.{failed, passed}
 use Rattle.plan.specs.internal.Passes.{orderVerdict}
-use Rattle.plan.proofs.Laws.{failed, passed}
 use Rattle.checker.proofs.Turns.{here, later}
 use Rattle.checker.proofs.ranges.order.check_order.Statement.{statement}
 use Rattle.checker.proofs.ranges.order.check_order.Tie as tie

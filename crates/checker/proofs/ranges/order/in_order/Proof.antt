@@ -1,6 +1,6 @@
 -- `checker::ranges::order::in_order` meets its contract: each arm knows its case.
 use borrow.Author.Needs.{needs}
-use Rattle.plan.proofs.Laws.{failed, passed}
+use Rattle.laws.proofs.Tests.{failed, passed}
 use Rattle.checker.proofs.ranges.order.in_order.Statement.{statement}
 use Rattle.checker.proofs.ranges.order.in_order.Tie as tie
 

@@ -2,8 +2,8 @@
 use mathlib.Core.Path.{refl, sym, _∙_}
 use borrow.Author.Needs.{needs}
 use borrow.Author.Tests.{ne-eqb}
+use Rattle.laws.proofs.Matches.{via}
 use Rattle.machine.specs.Registers.{modeOf}
-use Rattle.plan.proofs.Laws.{via}
 use Rattle.host.proofs.write.fields.mode_of.Statement.{statement}
 use Rattle.host.proofs.write.fields.mode_of.Tie as tie
 

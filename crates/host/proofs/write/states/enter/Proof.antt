@@ -1,11 +1,11 @@
 -- `host::write::states::enter` meets its contract: each arm knows the mode.
 use mathlib.Core.Path.{ap, _∙_}
 use borrow.Author.Needs.{needs}
+use Rattle.laws.proofs.Matches.{via}
 use Rattle.word.specs.Profile.{LP5523}
 use Rattle.machine.specs.declared.Mode.the-variants.{Load}
 use Rattle.machine.specs.Parts.{withMode}
 use Rattle.machine.specs.Stored.{enters}
-use Rattle.plan.proofs.Laws.{via}
 use Rattle.host.proofs.write.states.enter.Statement.{statement}
 use Rattle.host.proofs.write.states.enter.Tie as tie
 

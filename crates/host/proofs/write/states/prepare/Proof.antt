@@ -1,9 +1,9 @@
 -- `host::write::states::prepare` meets its contract: each arm knows the mode.
 use mathlib.Core.Path.{refl}
 use borrow.Author.Needs.{needs}
+use Rattle.laws.proofs.Matches.{via}
 use Rattle.word.specs.Profile.{LP5523}
 use Rattle.machine.specs.Stored.{prepared}
-use Rattle.plan.proofs.Laws.{via}
 use Rattle.host.proofs.write.states.prepare.Statement.{statement}
 use Rattle.host.proofs.write.states.prepare.Tie as tie
 

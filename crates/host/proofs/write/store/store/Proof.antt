@@ -1,10 +1,10 @@
 -- `host::write::store::store` meets its contract: each arm knows the register.
 use mathlib.Core.Path.{refl, subst}
 use borrow.Author.Needs.{needs}
+use Rattle.laws.proofs.Matches.{via}
 use Rattle.word.specs.Profile.{LP5523}
 use Rattle.machine.specs.Stored.{stored}
 use Rattle.host.specs.internal.Places.{Exists}
-use Rattle.plan.proofs.Laws.{via}
 use Rattle.host.proofs.write.store.store.Statement.{statement}
 use Rattle.host.proofs.write.store.store.Tie as tie
 
