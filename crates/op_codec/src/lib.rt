@@ -6,4 +6,5 @@ mod writing;
 
 pub use op_line::put_op_line;
 pub use reading::assemble_line;
+pub use words::word_of;
 pub use writing::disassemble_word;

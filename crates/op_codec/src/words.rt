@@ -105,7 +105,7 @@ fn mux_at(op: MuxAtOp, p: Parts) -> Word
 }
 
 // The word whose parts these are; Undefined where there is none.
-pub(super) fn word_of(p: Parts) -> Word
+pub fn word_of(p: Parts) -> Word
     ensures { λ r. ⌜ r ≡ wordOf p ⌝ }
 {
     let op = p.op;

@@ -1,0 +1,12 @@
+-- `cases::pieces::until` is safe and ends.
+use mathlib.Core.Path.{sym}
+use native.Mathlib.Omega.{arith}
+use borrow.Author.Needs.{needs}
+use lib.Seq.{length-take-le}
+use Rattle.cases.proofs.pieces.until.Statement.{statement}
+use Rattle.cases.proofs.pieces.until.Tie as tie
+
+pub until-spec : {M : Type 1} → statement M
+until-spec =
+    tie.close
+    (tie.spec (λ c. sym (length-take-le _ _ (omega arith))) (search needs) (search needs))

@@ -1,0 +1,82 @@
+// Words, encoded and decoded. A line is a code, or an op's name and its operands in the order of the
+// sheet line, up as 0 and A as 0; or `count`, and what codes are counted by.
+mod counts;
+mod values;
+
+use crate::names::OPS;
+use crate::names::is_name;
+use crate::names::op_name;
+use crate::names::op_named;
+use crate::names::operands;
+use crate::numbers;
+use crate::numbers::Base;
+use crate::pieces::first;
+use crate::pieces::rest;
+use crate::pieces::until;
+use crate::print;
+use grammar::NAMES;
+use grammar::Values;
+use text_bytes::same;
+use values::values_of;
+use values::word_of;
+use word::Coded;
+use word::Word;
+
+fn print_word(w: Word) {
+    let v = values_of(w);
+    let op = v.a;
+    if op >= OPS {
+        print::text(b"undefined");
+        return;
+    }
+    print::text(op_name(&NAMES, op));
+    print::say(
+        until(b" $ $ $ $", operands(op) * 2),
+        &[v.b as u32, v.c as u32, v.d as u32, v.e as u32],
+    );
+}
+
+fn decoded(code: u16) {
+    print::text(b": ");
+    print_word(decoder::decode(code));
+}
+
+// The word's code, or its refusal as document 01 numbers it.
+fn encoded(w: Word) {
+    match encoder::encode(w) {
+        Coded::Code(code) => print::say(b": #", &[code as u32]),
+        Coded::OutsideField => print::text(b": refused 22"),
+        Coded::UndefinedWord => print::text(b": refused 13"),
+    }
+}
+
+fn word_in(op: u16, parts: &[u8]) -> Word {
+    let n = numbers::read(parts, 0, Base::Decimal);
+    word_of(Values {
+        a: op,
+        b: numbers::wide(n, 0),
+        c: numbers::wide(n, 1),
+        d: numbers::wide(n, 2),
+        e: numbers::wide(n, 3),
+        f: 0,
+        g: 0,
+    })
+}
+
+pub fn command(line: &[u8]) {
+    let name = first(line);
+    if !is_name(name) {
+        decoded(numbers::at_most(numbers::number(name, Base::Hex), 65535) as u16);
+        return;
+    }
+    if same(name, b"count") {
+        counts::command(rest(line));
+        return;
+    }
+    let op = op_named(name);
+    if op == OPS && !same(name, b"undefined") {
+        print::text(b": unknown");
+        return;
+    }
+    encoded(word_in(op, rest(line)));
+}
