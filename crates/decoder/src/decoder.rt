@@ -11,7 +11,8 @@ use word::MuxMoveOp;
 use word::Step;
 use word::Word;
 ghost use mathlib.Core.Path.{_≡_};
-ghost use Prim.Native.Nat.{_%_, _≤_, _<_};
+ghost use Prim.Native.Nat.{_/_, _%_, _≤_, _<_};
+ghost use Rattle.word.specs.declared.Word.the-variants.{Jump, Arith, ArithVar};
 ghost use Rattle.word.specs.Profile.{LP5523};
 ghost use Rattle.word.specs.Decode.{choose, ramps, rampVars, sums, reading, decodeOf};
 
@@ -62,47 +63,53 @@ fn ramp_var_at(code: u16) -> Word
     }
 }
 
+fn arith_at(code: u16, op: ArithOp) -> Word
+    ensures { λ r. ⌜ r ≡ Arith op (code / 1024 % 4) (code % 256) ⌝ }
+{
+    Word::Arith {
+        op,
+        to: code / 1024 % 4,
+        value: code % 256,
+    }
+}
+
+fn arith_var_at(code: u16, op: ArithVarOp) -> Word
+    ensures { λ r. ⌜ r ≡ ArithVar op (code / 1024 % 4) (code / 4 % 4) (code % 4) ⌝ }
+{
+    Word::ArithVar {
+        op,
+        to: code / 1024 % 4,
+        left: code / 4 % 4,
+        right: code % 4,
+    }
+}
+
 fn sum_at(code: u16) -> Word
     ensures { λ r. ⌜ r ≡ choose (code % 1024) (sums code) ⌝ }
 {
-    let to = code / 1024 % 4;
-    let value = code % 256;
-    let left = code / 4 % 4;
-    let right = code % 4;
     if code % 1024 < 0x100 {
-        return Word::Arith {
-            op: ArithOp::Ld,
-            to,
-            value,
-        };
+        return arith_at(code, ArithOp::Ld);
     }
     if code % 1024 < 0x200 {
-        return Word::Arith {
-            op: ArithOp::Add,
-            to,
-            value,
-        };
+        return arith_at(code, ArithOp::Add);
     }
     if code % 1024 < 0x300 {
-        return Word::Arith {
-            op: ArithOp::Sub,
-            to,
-            value,
-        };
+        return arith_at(code, ArithOp::Sub);
     }
     if code % 1024 < 0x310 {
-        return Word::ArithVar {
-            op: ArithVarOp::AddVar,
-            to,
-            left,
-            right,
-        };
+        return arith_var_at(code, ArithVarOp::AddVar);
     }
-    Word::ArithVar {
-        op: ArithVarOp::SubVar,
-        to,
-        left,
-        right,
+    arith_var_at(code, ArithVarOp::SubVar)
+}
+
+fn jump_at(code: u16, op: JumpOp) -> Word
+    ensures { λ r. ⌜ r ≡ Jump op (code / 16 % 32) (code / 4 % 4) (code % 4) ⌝ }
+{
+    Word::Jump {
+        op,
+        skip: code / 16 % 32,
+        left: code / 4 % 4,
+        right: code % 4,
     }
 }
 
@@ -128,49 +135,28 @@ fn from_8(code: u16) -> Word
     requires { ⌜ (0x8000 ≤ code) × (code < 0x9000) ⌝ }
     ensures { λ r. ⌜ r ≡ reading code ⌝ }
 {
-    let skip = code / 16 % 32;
-    let left = code / 4 % 4;
-    let right = code % 4;
     if code < 0x8460 {
         return ramp_var_at(code);
     }
     if code < 0x8600 {
-        return Word::SetVar { from: right };
+        return Word::SetVar { from: code % 4 };
     }
     if code < 0x8800 {
-        let step = Step(code / 4 % 128);
-        return Word::BranchVar { loops: right, step };
+        return Word::BranchVar {
+            loops: code % 4,
+            step: Step(code / 4 % 128),
+        };
     }
     if code < 0x8A00 {
-        return Word::Jump {
-            op: JumpOp::Jne,
-            skip,
-            left,
-            right,
-        };
+        return jump_at(code, JumpOp::Jne);
     }
     if code < 0x8C00 {
-        return Word::Jump {
-            op: JumpOp::Jl,
-            skip,
-            left,
-            right,
-        };
+        return jump_at(code, JumpOp::Jl);
     }
     if code < 0x8E00 {
-        return Word::Jump {
-            op: JumpOp::Jge,
-            skip,
-            left,
-            right,
-        };
+        return jump_at(code, JumpOp::Jge);
     }
-    Word::Jump {
-        op: JumpOp::Je,
-        skip,
-        left,
-        right,
-    }
+    jump_at(code, JumpOp::Je)
 }
 
 // Words that begin with 9.
