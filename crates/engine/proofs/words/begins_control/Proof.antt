@@ -4,7 +4,8 @@ use borrow.Author.Needs.{needs}
 use Rattle.word.specs.Profile.{LP5523}
 use Rattle.machine.specs.Words.{begins}
 use Rattle.plan.proofs.Laws.{via}
-use Rattle.engine.proofs.Later.{from-18, undefined}
+use Rattle.plan.proofs.Later.{undefined}
+use Rattle.engine.proofs.Later.{from-18}
 use Rattle.engine.proofs.words.begins_control.Statement.{statement}
 use Rattle.engine.proofs.words.begins_control.Tie as tie
 
