@@ -1,7 +1,7 @@
 // All 65,536 codes: how many there are of each operation, how many are defined, and how many encode
 // back to themselves.
 use super::print::print_kind;
-use parts::parts_of;
+use op_codec::values_of;
 use word::Coded;
 use word::Word;
 
@@ -27,7 +27,7 @@ fn holds(question: u16, code: u16) -> bool {
     if question == ENCODES_BACK {
         return encodes_to(w, code);
     }
-    let op = parts_of(w).op;
+    let op = values_of(w).a;
     if question == IS_DEFINED {
         return op < UNDEFINED;
     }

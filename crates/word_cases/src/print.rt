@@ -1,5 +1,5 @@
 // A word with what the encoder answers; a code with what the decoder answers.
-use parts::parts_of;
+use op_codec::values_of;
 use word::Coded;
 use word::Word;
 
@@ -99,14 +99,14 @@ fn print_operand(count: u16, place: u16, value: u16) {
 }
 
 fn print_word(w: Word) {
-    let p = parts_of(w);
-    let op = p.op;
+    let v = values_of(w);
+    let op = v.a;
     print_kind(op);
     let count = OPERANDS[(op % 32) as usize];
-    print_operand(count, 0, p.a);
-    print_operand(count, 1, p.b);
-    print_operand(count, 2, p.c);
-    print_operand(count, 3, p.d);
+    print_operand(count, 0, v.b);
+    print_operand(count, 1, v.c);
+    print_operand(count, 2, v.d);
+    print_operand(count, 3, v.e);
 }
 
 // What the encoder answers, as document 01 numbers it.
