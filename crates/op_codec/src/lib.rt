@@ -1,4 +1,5 @@
-// Op lines, read as codes and written from codes. The definitions are crate op_lines's.
+// Op lines, read as codes and written from codes; the values of a word's line. The definitions are
+// crate op_lines's.
 mod op_line;
 mod reading;
 mod values;

@@ -15,7 +15,7 @@ ghost use Prim.Native.Nat.{_≤_};
 ghost use Rattle.word.specs.Profile.{LP5523};
 ghost use Rattle.word.proofs.Word.{the-type};
 ghost use Rattle.grammar.specs.Tables.{valuesOf};
-ghost use Rattle.op_lines.specs.Values.{directionPlace, jumpRow, arithRow, arithVarRow, muxAtRow, muxMoveRow, opValues};
+ghost use Rattle.op_lines.specs.Values.{directionPlace, jumpRow, arithRow, arithVarRow, muxAtRow, muxMoveRow, wordValues};
 
 fn direction_place(dir: Direction) -> u16
     ensures { λ r. ⌜ r ≡ directionPlace dir ⌝ }
@@ -96,7 +96,7 @@ fn values(row: u16, a: u16, b: u16, c: u16, d: u16) -> Values
 // Words of the mapping table, and those after them in `Word`, counted from 0.
 fn later_values(word: Word) -> Values
     requires { ⌜ 10 ≤ tagOf the-type word ⌝ }
-    ensures { λ r. ⌜ r ≡ valuesOf (opValues LP5523 word) ⌝ }
+    ensures { λ r. ⌜ r ≡ wordValues LP5523 word ⌝ }
 {
     match word {
         Word::MuxAt { op, address } => values(mux_at_row(op), address.0, 0, 0, 0),
@@ -113,7 +113,7 @@ fn later_values(word: Word) -> Values
 
 // An undefined word's place is past the last operation's.
 pub fn values_of(word: Word) -> Values
-    ensures { λ r. ⌜ r ≡ valuesOf (opValues LP5523 word) ⌝ }
+    ensures { λ r. ⌜ r ≡ wordValues LP5523 word ⌝ }
 {
     match word {
         Word::Rst => values(0, 0, 0, 0, 0),

@@ -22,7 +22,7 @@ use Rattle.grammar.specs.Grammar.{opForm, writeOp}
 use Rattle.grammar.specs.Tables.{valuesOf, listOf}
 use Rattle.grammar.specs.Theorems.{fitsForm, fitsOp}
 use Rattle.op_lines.specs.Words.{wordOf}
-use Rattle.op_lines.specs.Values.{opValues}
+use Rattle.op_lines.specs.Values.{opValues, wordValues}
 use Rattle.op_lines.proofs.Fits.{one, two, three, number-fits, variable-fits, target-fits}
 
 -- Whether the word of a line of the table has a code.
@@ -37,11 +37,11 @@ RampByZero i = (p : ℕ) × (t : ℕ) × (i ≡ Ramp p t Up 0)
 -- `padded`: the zeros after a word's last operand, where there is room for seven values, are not written.
 pub record Written (P : Profile) (i : Word) : Type 0 where
   pub again : wordOf P (opValues P i) ≡ i
-  pub padded : writeOp P (listOf (valuesOf (opValues P i))) ≡ writeOp P (opValues P i)
+  pub padded : writeOp P (listOf (wordValues P i)) ≡ writeOp P (opValues P i)
   pub fitting : RampByZero i ⊎ (fitsOp P (opValues P i) ≡ codes P (lineOf i))
 
 -- a word whose values fit exactly where it has a code
-coded : {P : Profile} {i : Word} → wordOf P (opValues P i) ≡ i → writeOp P (listOf (valuesOf (opValues P i))) ≡ writeOp P (opValues P i)
+coded : {P : Profile} {i : Word} → wordOf P (opValues P i) ≡ i → writeOp P (listOf (wordValues P i)) ≡ writeOp P (opValues P i)
     → fitsOp P (opValues P i) ≡ codes P (lineOf i) → Written P i
 coded a p f = record { again = a; padded = p; fitting = inr f }
 

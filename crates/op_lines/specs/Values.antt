@@ -18,7 +18,9 @@ use Rattle.word.specs.declared.MuxMoveOp.{MuxMoveOp}
 use Rattle.word.specs.declared.MuxMoveOp.the-variants.{MuxMapNext, MuxLdNext, MuxMapPrev, MuxLdPrev}
 use Rattle.word.specs.declared.Word.{Word}
 use Rattle.word.specs.declared.Word.the-variants.{Rst, Ramp, Wait, Set, RampVar, SetVar, BranchVar, Jump, Arith, ArithVar, MuxAt, MuxClr, MuxSel, MuxMove, Branch, End, Int, Trigger, Undefined}
+use Rattle.grammar.specs.declared.Values.{Values}
 use Rattle.grammar.specs.Grammar.{opLines}
+use Rattle.grammar.specs.Tables.{valuesOf}
 
 -- The place of a direction among the words for it.
 abbrev pub directionPlace : Direction → ℕ
@@ -76,3 +78,7 @@ opValues P (End i z) = 28 ∷ i ∷ z ∷ []
 opValues P Int = 29 ∷ []
 opValues P (Trigger w x) = 30 ∷ w ∷ x ∷ []
 opValues P Undefined = length (opLines P) ∷ []
+
+-- The same as the functions have them: 0 past the last.
+abbrev pub wordValues : Profile → Word → Values
+wordValues P i = valuesOf (opValues P i)

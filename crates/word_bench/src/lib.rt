@@ -3,8 +3,7 @@
 ghost use mathlib.Core.Path.{_≡_};
 ghost use Rattle.word.specs.Profile.{LP5523};
 ghost use Rattle.word.specs.Decode.{decodeOf};
-ghost use Rattle.grammar.specs.Tables.{valuesOf};
-ghost use Rattle.op_lines.specs.Values.{opValues};
+ghost use Rattle.op_lines.specs.Values.{wordValues};
 ghost use Rattle.word_bench.specs.Digest.{digestOf};
 use grammar::Values;
 
@@ -22,7 +21,7 @@ fn digest(v: Values) -> u64
 
 #[no_mangle]
 pub extern "C" fn word_digest(code: u16) -> u64
-    ensures { λ r. ⌜ r ≡ digestOf (valuesOf (opValues LP5523 (decodeOf LP5523 code))) ⌝ }
+    ensures { λ r. ⌜ r ≡ digestOf (wordValues LP5523 (decodeOf LP5523 code)) ⌝ }
 {
     digest(op_codec::values_of(decoder::decode(code)))
 }

@@ -2,9 +2,7 @@
 use mathlib.Core.Path.{_∙_, ap}
 use borrow.Author.Needs.{needs}
 use Rattle.word.specs.Profile.{LP5523}
-use Rattle.word.specs.declared.Word.{Word}
-use Rattle.grammar.specs.Tables.{valuesOf}
-use Rattle.op_lines.specs.Values.{opValues}
+use Rattle.op_lines.specs.Values.{wordValues}
 use Rattle.word_bench.specs.Digest.{digestOf}
 use Rattle.word_bench.proofs.word_digest.Statement.{statement}
 use Rattle.word_bench.proofs.word_digest.Tie as tie
@@ -16,4 +14,4 @@ word-digest-spec =
     (search needs)
     (search needs)
     (search needs)
-    (λ c. c .digest .ensures ∙ ap digestOf (c .before .values-of .ensures ∙ ap (λ (i : Word). valuesOf (opValues LP5523 i)) (c .before .before .decode .ensures))))
+    (λ c. c .digest .ensures ∙ ap digestOf (c .before .values-of .ensures ∙ ap (wordValues LP5523) (c .before .before .decode .ensures))))

@@ -3,17 +3,12 @@ use mathlib.Core.List.{[], _∷_}
 use mathlib.Core.Path.{refl}
 use native.Mathlib.Omega.{arith}
 use Rattle.word.specs.Profile.{LP5523}
-use Rattle.word.specs.declared.Word.{Word}
 use Rattle.plan.proofs.Laws.{via}
 use Rattle.plan.proofs.Later.{later}
-use Rattle.grammar.specs.declared.Values.{Values}
 use Rattle.grammar.specs.Tables.{valuesOf}
-use Rattle.op_lines.specs.Values.{opValues}
+use Rattle.op_lines.specs.Values.{opValues, wordValues}
 use Rattle.op_codec.proofs.values.values_of.Statement.{statement}
 use Rattle.op_codec.proofs.values.values_of.Tie as tie
-
-abbrev lineValues : Word → Values
-lineValues i = valuesOf (opValues LP5523 i)
 
 pub values-of-spec : {M : Type 1} → statement M
 unfolding valuesOf opValues
@@ -46,14 +41,14 @@ values-of-spec =
     (λ c κs. tt)
     (λ c κs. tt)
     (λ c κs. later 0 10 (10 ∷ 11 ∷ 12 ∷ 13 ∷ 14 ∷ 15 ∷ 16 ∷ 17 ∷ 18 ∷ []) _ refl (omega arith) (c .match .keys11))
-    (λ c. via lineValues (c .values .ensures) (c .before .enum-told .given .1))
-    (λ c. via lineValues (rw (c .before .direction-place .ensures) at (c .values2 .ensures)) (c .before .before .before .word .given .1))
-    (λ c. via lineValues (c .values3 .ensures) (c .before .before .word2 .given .1))
-    (λ c. via lineValues (c .values4 .ensures) (c .before .before .word3 .given .1))
-    (λ c. via lineValues (rw (c .before .direction-place2 .ensures) at (c .values5 .ensures)) (c .before .before .before .word4 .given .1))
-    (λ c. via lineValues (c .values6 .ensures) (c .before .before .word5 .given .1))
-    (λ c. via lineValues (c .values7 .ensures) (c .before .before .word6 .given .1))
-    (λ c. via lineValues (rw (c .before .jump-row .ensures) at (c .values8 .ensures)) (c .before .before .before .word7 .given .1))
-    (λ c. via lineValues (rw (c .before .arith-row .ensures) at (c .values9 .ensures)) (c .before .before .before .word8 .given .1))
-    (λ c. via lineValues (rw (c .before .arith-var-row .ensures) at (c .values10 .ensures)) (c .before .before .before .word9 .given .1))
+    (λ c. via (wordValues LP5523) (c .values .ensures) (c .before .enum-told .given .1))
+    (λ c. via (wordValues LP5523) (rw (c .before .direction-place .ensures) at (c .values2 .ensures)) (c .before .before .before .word .given .1))
+    (λ c. via (wordValues LP5523) (c .values3 .ensures) (c .before .before .word2 .given .1))
+    (λ c. via (wordValues LP5523) (c .values4 .ensures) (c .before .before .word3 .given .1))
+    (λ c. via (wordValues LP5523) (rw (c .before .direction-place2 .ensures) at (c .values5 .ensures)) (c .before .before .before .word4 .given .1))
+    (λ c. via (wordValues LP5523) (c .values6 .ensures) (c .before .before .word5 .given .1))
+    (λ c. via (wordValues LP5523) (c .values7 .ensures) (c .before .before .word6 .given .1))
+    (λ c. via (wordValues LP5523) (rw (c .before .jump-row .ensures) at (c .values8 .ensures)) (c .before .before .before .word7 .given .1))
+    (λ c. via (wordValues LP5523) (rw (c .before .arith-row .ensures) at (c .values9 .ensures)) (c .before .before .before .word8 .given .1))
+    (λ c. via (wordValues LP5523) (rw (c .before .arith-var-row .ensures) at (c .values10 .ensures)) (c .before .before .before .word9 .given .1))
     (λ c. c .later-values .ensures))
