@@ -1,9 +1,9 @@
 -- What the last arm of a match over the words knows, where the match is in parts by the order of the words in `Word`: the word is one that no
 -- earlier arm names.
-use Prim.Native.Nat.{ℕ, _≤_}
+use Prim.Native.Nat.{ℕ, zero, suc, _+_, _-_, _≤_}
 use mathlib.Core.Bool.{Bool, true, false, _&&_, _||_, false≢true}
 use mathlib.Core.Logic.{inl, inr}
-use mathlib.Core.List.{List, [], _∷_}
+use mathlib.Core.List.{List, [], _∷_, _++_}
 use mathlib.Core.Path.{_≡_, refl}
 use native.Mathlib.Omega.{arith}
 use borrow.Author.Tests.{leb-true, ltb-true}
@@ -19,7 +19,7 @@ use Rattle.plan.proofs.Laws.{by-test, and-left, and-right}
 abbrev outside : ℕ → ℕ → ℕ → Bool
 outside a b k = ltb k a || leb b k
 
-abbrev pub allOutside : ℕ → ℕ → List ℕ → Bool
+abbrev allOutside : ℕ → ℕ → List ℕ → Bool
 allOutside a b [] = true
 allOutside a b (k ∷ ks) = outside a b k && allOutside a b ks
 
@@ -29,12 +29,23 @@ one a b k t ok p e =
     by-test (ltb k a) (λ r. omega (arith, ltb-true k a r)) λ r.
     absurd (false≢true (rw (r, q) at ok))
 
--- a number from a on that is one of such numbers is from b on
-pub later : (a b : ℕ) (ks : List ℕ) (t : ℕ) → allOutside a b ks ≡ true → a ≤ t → OneOf ks t → b ≤ t
-later a b (k ∷ []) t ok p e = one a b k t (and-left _ _ ok) p e
-later a b (k ∷ l ∷ ks) t ok p (inl e) = one a b k t (and-left _ _ ok) p e
-later a b (k ∷ l ∷ ks) t ok p (inr h) = later a b (l ∷ ks) t (and-right (outside a b k) _ ok) p h
-later a b [] t ok p e = absurd e
+outside-later : (a b : ℕ) (ks : List ℕ) (t : ℕ) → allOutside a b ks ≡ true → a ≤ t → OneOf ks t → b ≤ t
+outside-later a b (k ∷ []) t ok p e = one a b k t (and-left _ _ ok) p e
+outside-later a b (k ∷ l ∷ ks) t ok p (inl e) = one a b k t (and-left _ _ ok) p e
+outside-later a b (k ∷ l ∷ ks) t ok p (inr h) = outside-later a b (l ∷ ks) t (and-right (outside a b k) _ ok) p h
+outside-later a b [] t ok p e = absurd e
+
+-- n numbers from k on
+abbrev counted : ℕ → ℕ → List ℕ
+counted zero k = []
+counted (suc n) k = k ∷ counted n (k + 1)
+
+-- The cases that are left where an arm names each from a on and below b: of a word from a on, those from b on.
+abbrev left : ℕ → ℕ → List ℕ
+left a b = counted a 0 ++ counted (19 - b) b
+
+pub later : (a b : ℕ) (t : ℕ) → allOutside a b (left a b) ≡ true → a ≤ t → OneOf (left a b) t → b ≤ t
+later a b t ok p h = outside-later a b (left a b) t ok p h
 
 pub undefined : (w : Word) → 18 ≤ tagOf the-type w → w ≡ Undefined
 undefined Rst h = absurd (omega arith)

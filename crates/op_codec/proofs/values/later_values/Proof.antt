@@ -1,5 +1,4 @@
 -- `op_codec::values::later_values` meets its contract: each arm knows its case.
-use mathlib.Core.List.{[], _∷_}
 use mathlib.Core.Path.{refl}
 use Rattle.word.specs.Profile.{LP5523}
 use Rattle.plan.proofs.Laws.{via}
@@ -41,4 +40,4 @@ later-values-spec =
     (λ c. via (wordValues LP5523) (c .values6 .ensures) (c .before .before .word5 .given .1))
     (λ c. via (wordValues LP5523) (c .values7 .ensures) (c .before .enum-told2 .given .1))
     (λ c. via (wordValues LP5523) (c .values8 .ensures) (c .before .before .word6 .given .1))
-    (λ c. via (wordValues LP5523) (c .values9 .ensures) (undefined (c .before .before .args .word) (later 10 18 (0 ∷ 1 ∷ 2 ∷ 3 ∷ 4 ∷ 5 ∷ 6 ∷ 7 ∷ 8 ∷ 9 ∷ 18 ∷ []) _ refl (c .before .before .pre) (c .before .match .keys9)))))
+    (λ c. via (wordValues LP5523) (c .values9 .ensures) (undefined (c .before .before .args .word) (later 10 18 _ refl (c .before .before .pre) (c .before .match .keys9)))))

@@ -1,5 +1,4 @@
 -- `op_codec::values::values_of` meets its contract: each arm knows its case.
-use mathlib.Core.List.{[], _∷_}
 use mathlib.Core.Path.{refl}
 use native.Mathlib.Omega.{arith}
 use Rattle.word.specs.Profile.{LP5523}
@@ -40,7 +39,7 @@ values-of-spec =
     (λ c. c .match .keys10)
     (λ c κs. tt)
     (λ c κs. tt)
-    (λ c κs. later 0 10 (10 ∷ 11 ∷ 12 ∷ 13 ∷ 14 ∷ 15 ∷ 16 ∷ 17 ∷ 18 ∷ []) _ refl (omega arith) (c .match .keys11))
+    (λ c κs. later 0 10 _ refl (omega arith) (c .match .keys11))
     (λ c. via (wordValues LP5523) (c .values .ensures) (c .before .enum-told .given .1))
     (λ c. via (wordValues LP5523) (rw (c .before .direction-place .ensures) at (c .values2 .ensures)) (c .before .before .before .word .given .1))
     (λ c. via (wordValues LP5523) (c .values3 .ensures) (c .before .before .word2 .given .1))
