@@ -52,7 +52,7 @@ fn compare(peer: &mut Peer, sheets: u32) -> Result<u32> {
         let theirs = String::from_utf8_lossy(&plain_answer(&sheet)).into_owned();
         peer.tell(&format!("image {SHEET}\n"))?;
         let first = peer.answer()?;
-        let rest = if first.contains(REFUSED) { 0 } else { plain::WORDS / WORDS_PER_LINE - 1 };
+        let rest = if first.starts_with(SHEET) { 0 } else { plain::WORDS / WORDS_PER_LINE - 1 };
         let ours = [vec![first], peer.answers(rest)?].concat().join("\n") + "\n";
         *refusals.entry(refusal(&theirs).to_string()).or_insert(0) += 1;
         if ours != theirs {
