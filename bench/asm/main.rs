@@ -1,81 +1,123 @@
-//! Compares the proved reader of sheets with a plain one: number, line and lent image on random
-//! sheets, then the time of both on the same sheets, in one run. The first argument is the number of
-//! random sheets.
+//! Compares the proved reader of sheets, as the program `lights` runs it, with a plain one: number and
+//! line of the refusal, or the image, on random sheets; then the time of both on the same sheets, in
+//! one run. Each sheet is read from a file, and its image is a text. The first argument is the number
+//! of random sheets.
 mod generate;
+#[path = "../peer.rs"]
+mod peer;
 mod plain;
 
 use generate::Random;
+use peer::{Peer, REFUSED};
 use std::collections::BTreeMap;
-use std::hint::black_box;
+use std::fs::{self, File};
+use std::io::{Result, Write};
 use std::time::Instant;
 
-extern "C" {
-    fn sheet_read(text: *const u8, text_len: usize, image: *mut u16, image_len: usize) -> u64;
+/// Where a sheet is put for both sides.
+const SHEET: &str = "target/bench/sheet";
+
+const WORDS_PER_LINE: usize = 16;
+
+fn print_image(words: &[u16]) -> Vec<u8> {
+    let mut text = Vec::with_capacity(words.len() * 5);
+    for (place, word) in words.iter().enumerate() {
+        text.extend([12, 8, 4, 0].map(|shift| b"0123456789ABCDEF"[usize::from(word >> shift & 15)]));
+        text.push(if (place + 1) % WORDS_PER_LINE == 0 { b'\n' } else { b' ' });
+    }
+    text
 }
 
-fn proved(text: &[u8], image: &mut [u16]) -> u64 {
-    // reads the text's bytes and writes the image's words, no others
-    unsafe { sheet_read(text.as_ptr(), text.len(), image.as_mut_ptr(), image.len()) }
-}
-
+/// What `lights image` prints of a sheet, by the plain reader; of a refusal nothing after the number.
 #[inline(never)]
-fn plain(text: &[u8], image: &mut [u16]) -> u64 {
-    match plain::assemble(text, image) {
-        Ok(plan) => {
-            black_box(plan);
-            0
-        }
-        Err((number, line)) => u64::from(number) * 65536 + u64::from(line),
+fn plain_answer(sheet: &[u8]) -> Vec<u8> {
+    let mut image = [0; plain::WORDS];
+    match plain::assemble(sheet, &mut image) {
+        Ok(_) => print_image(&image),
+        Err((number, 0)) => format!("{SHEET}: {REFUSED}{number}\n").into_bytes(),
+        Err((number, line)) => format!("{SHEET}:{line}: {REFUSED}{number}\n").into_bytes(),
     }
 }
 
+fn refusal(answer: &str) -> &str {
+    answer.find(REFUSED).map_or("read", |begin| answer[begin..].trim_end())
+}
+
 /// The number of sheets on which the two sides differ.
-fn compare(sheets: u32) -> u32 {
-    let (mut random, mut differing, mut answers) = (Random::new(0x5523), 0, BTreeMap::new());
+fn compare(peer: &mut Peer, sheets: u32) -> Result<u32> {
+    let (mut random, mut differing, mut refusals) = (Random::new(0x5523), 0, BTreeMap::new());
     for _ in 0..sheets {
-        let text = generate::sheet(&mut random);
-        let words = if random.below(50) == 0 { 95 } else { plain::WORDS };
-        let (mut ours, mut theirs) = (vec![0x5A5A; words], vec![0x5A5A; words]);
-        let (our, their) = (proved(&text, &mut ours), plain(&text, &mut theirs));
-        *answers.entry(their >> 16).or_insert(0) += 1;
-        if (our, &ours) != (their, &theirs) {
+        let sheet = generate::sheet(&mut random);
+        fs::write(SHEET, &sheet)?;
+        let theirs = String::from_utf8_lossy(&plain_answer(&sheet)).into_owned();
+        peer.tell(&format!("image {SHEET}\n"))?;
+        let first = peer.answer()?;
+        let rest = if first.starts_with(SHEET) { 0 } else { plain::WORDS / WORDS_PER_LINE - 1 };
+        let ours = [vec![first], peer.answers(rest)?].concat().join("\n") + "\n";
+        *refusals.entry(refusal(&theirs).to_string()).or_insert(0) += 1;
+        if ours != theirs {
             differing += 1;
             if differing <= 3 {
-                println!("proved={our:x} plain={their:x}\n{}", String::from_utf8_lossy(&text));
+                println!("proved: {ours}plain:  {theirs}{}", String::from_utf8_lossy(&sheet));
             }
         }
     }
     println!("sheets={sheets} differing={differing}");
-    for (number, count) in answers {
-        println!("answer {number}: {count}");
+    for (refusal, count) in refusals {
+        println!("{refusal}: {count}");
     }
-    differing
+    Ok(differing)
 }
 
-const ROUNDS: u32 = 2_000;
+const ROUNDS: usize = 50;
 
-fn nanoseconds(read: fn(&[u8], &mut [u16]) -> u64, text: &[u8]) -> f64 {
-    let mut image = [0; plain::WORDS];
+/// The time from the first of some commands to the last of their answers, for each.
+fn proved_microseconds(peer: &mut Peer, lines: usize) -> Result<f64> {
+    let commands = format!("image {SHEET}\n").repeat(ROUNDS);
+    let begin = Instant::now();
+    peer.tell(&commands)?;
+    peer.answers(lines * ROUNDS)?;
+    Ok(begin.elapsed().as_secs_f64() * 1e6 / ROUNDS as f64)
+}
+
+/// The same work in this program: the sheet is read from its file, and the answer written out.
+fn plain_microseconds(output: &mut File) -> Result<f64> {
     let begin = Instant::now();
     for _ in 0..ROUNDS {
-        black_box(read(black_box(text), &mut image));
+        output.write_all(&plain_answer(&fs::read(SHEET)?))?;
     }
-    begin.elapsed().as_nanos() as f64 / f64::from(ROUNDS)
+    Ok(begin.elapsed().as_secs_f64() * 1e6 / ROUNDS as f64)
 }
 
-fn time(name: &str, text: &[u8]) {
-    let mut best = (f64::MAX, f64::MAX);
-    for _ in 0..20 {
-        best = (best.0.min(nanoseconds(proved, text)), best.1.min(nanoseconds(plain, text)));
+/// The best times of both sides for each of some answers to a sheet.
+fn times(peer: &mut Peer, sheet: &[u8]) -> Result<(f64, f64)> {
+    fs::write(SHEET, sheet)?;
+    let lines = plain_answer(sheet).iter().filter(|byte| **byte == b'\n').count();
+    let (mut best, mut output) = ((f64::MAX, f64::MAX), File::create("/dev/null")?);
+    for _ in 0..400 {
+        best = (best.0.min(proved_microseconds(peer, lines)?), best.1.min(plain_microseconds(&mut output)?));
     }
-    println!("{name}: proved={:.0} ns plain={:.0} ns ratio={:.2}", best.0, best.1, best.0 / best.1);
+    Ok(best)
 }
 
-fn main() {
+/// Times a sheet, and an empty one, which takes the files and pipes alone.
+fn time(peer: &mut Peer, name: &str, sheet: &[u8]) -> Result<()> {
+    let (empty, whole) = (times(peer, b"")?, times(peer, sheet)?);
+    let beyond = (whole.0 - empty.0, whole.1 - empty.1);
+    for (what, (ours, theirs)) in [("in all", whole), ("beyond an empty sheet's", beyond)] {
+        println!("{name}, {what}: proved={ours:.1} us plain={theirs:.1} us ratio={:.2}", ours / theirs);
+    }
+    Ok(())
+}
+
+fn main() -> Result<()> {
     let sheets = std::env::args().nth(1).and_then(|count| count.parse().ok()).unwrap_or(20_000);
-    if compare(sheets) != 0 {
+    let mut peer = Peer::start("target/bin/lights")?;
+    if compare(&mut peer, sheets)? != 0 {
         std::process::exit(1);
     }
-    time("worked example", &generate::worked());
-    time("every line an op", &generate::all_code());
+    println!("timed: file read, sheet assembled, image printed; on the proved side by lights, its commands and answers through pipes");
+    time(&mut peer, "worked example", &generate::worked())?;
+    time(&mut peer, "every line an op", &generate::all_code())?;
+    peer.end()
 }

@@ -4,6 +4,7 @@
 mod calls;
 mod coverage;
 mod generate;
+#[path = "../peer.rs"]
 mod peer;
 mod plain;
 mod state;

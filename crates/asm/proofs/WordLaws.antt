@@ -20,7 +20,8 @@ use Rattle.grammar.specs.Form.{Reading, values, refused}
 use Rattle.grammar.specs.Grammar.{wordForm, readLine, writeLine}
 use Rattle.grammar.specs.Theorems.{fitsForm, fitsLine}
 use Rattle.grammar.proofs.Theorems.{read-writes, read-fits, written-reads, written-lacks}
-use Rattle.op_lines.specs.Lines.{opValues, opLineOf}
+use Rattle.op_lines.specs.Values.{opValues}
+use Rattle.op_lines.specs.Lines.{opLineOf}
 use Rattle.op_lines.specs.Theorems.{LineAgain, CodeAgain}
 use Rattle.asm.specs.Places.{formAt}
 use Rattle.asm.specs.Reading.{plainWord, readWordLine}

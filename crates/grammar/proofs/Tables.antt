@@ -70,7 +70,7 @@ getD-tabulate (suc n) f d zero h = refl
 getD-tabulate (suc n) f d (suc k) h = getD-tabulate n (λ i. f (suc i)) d k (le-of-suc-le-suc h)
 
 -- A list that is tabulated has at k what the table says of k.
-tabled : {A : Type 0} (xs : List A) (n : ℕ) (f : ℕ → A) (d : A) → xs ≡ tabulate n f → (k : ℕ) → k < n → getD xs k d ≡ f k
+pub tabled : {A : Type 0} (xs : List A) (n : ℕ) (f : ℕ → A) (d : A) → xs ≡ tabulate n f → (k : ℕ) → k < n → getD xs k d ≡ f k
 tabled xs n f d e k h = ap (λ (l : List _). getD l k d) e ∙ getD-tabulate n f d k h
 
 -- A test that holds at each number below n.

@@ -1,6 +1,6 @@
 // The line of a code, written as far as there is room.
+use crate::values::values_of;
 use grammar::Form;
-use grammar::Values;
 ghost use Rattle.text.specs.Put.{Put};
 ghost use Rattle.word.specs.Profile.{LP5523};
 ghost use Rattle.op_lines.specs.Lines.{opLineOf};
@@ -10,15 +10,6 @@ ghost use Rattle.op_lines.specs.Lines.{opLineOf};
 pub fn put_op_line(out: &mut [u8], at: usize, code: u16) -> usize
     ensures { λ r. ⌜ Put (now (out .entry)) (now (out .exit)) (opLineOf LP5523 code) at r ⌝ }
 {
-    let p = parts::parts_of(decoder::decode(code));
-    let v = Values {
-        a: p.op,
-        b: p.a,
-        c: p.b,
-        d: p.c,
-        e: p.d,
-        f: 0,
-        g: 0,
-    };
+    let v = values_of(decoder::decode(code));
     line_writer::put_line(out, at, Form::Op, v)
 }

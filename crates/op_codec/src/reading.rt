@@ -4,7 +4,6 @@ use grammar::Form;
 use grammar::LineRead;
 use grammar::Values;
 use op_lines::WordLine;
-use parts::Parts;
 use word::Coded;
 ghost use mathlib.Core.Path.{_≡_};
 ghost use mathlib.Core.Logic.{_⊎_};
@@ -12,7 +11,7 @@ ghost use Prim.Native.Nat.{_<_};
 ghost use Rattle.word.specs.Profile.{LP5523};
 ghost use Rattle.word.specs.Answer.{refusal};
 ghost use Rattle.word.specs.Table.{encodeOf};
-ghost use Rattle.parts.specs.Parts.{parts};
+ghost use Rattle.grammar.specs.Tables.{listOf};
 ghost use Rattle.op_lines.specs.Words.{wordOf};
 ghost use Rattle.op_lines.specs.Lines.{answerOf, assembleLineOf};
 
@@ -31,16 +30,9 @@ fn refused(number: u16) -> WordLine
 // The code of the word that values of an op line stand for.
 fn code_of(v: Values) -> WordLine
     requires { ⌜ v .a < 31 ⌝ }
-    ensures { λ r. ⌜ answerOf r ≡ encodeOf LP5523 (wordOf (parts (v .a) (v .b) (v .c) (v .d) (v .e))) ⌝ }
+    ensures { λ r. ⌜ answerOf r ≡ encodeOf LP5523 (wordOf LP5523 (listOf v)) ⌝ }
 {
-    let i = word_of(Parts {
-        op: v.a,
-        a: v.b,
-        b: v.c,
-        c: v.d,
-        d: v.e,
-    });
-    let coded = encoder::encode(i);
+    let coded = encoder::encode(word_of(v));
     let Coded::Code(w) = coded else {
         return WordLine::OutsideField;
     };

@@ -1,5 +1,5 @@
-// The word that plain numbers stand for.
-use parts::Parts;
+// The word that the values of a line stand for.
+use grammar::Values;
 use word::Address;
 use word::ArithOp;
 use word::ArithVarOp;
@@ -11,8 +11,11 @@ use word::Step;
 use word::Word;
 ghost use mathlib.Core.Path.{_≡_};
 ghost use Rattle.word.specs.Steps.{stepAt, addressAt};
-ghost use Rattle.word.specs.declared.Word.the-variants.{Ramp, RampVar, Jump, Arith, ArithVar, MuxAt, BranchVar, Branch};
-ghost use Rattle.op_lines.specs.Words.{directionOf, wordOf};
+ghost use Rattle.word.specs.declared.Word.the-variants.{Ramp, Wait, RampVar, BranchVar, Jump, Arith, ArithVar, MuxAt, MuxMove, Branch, End, Trigger};
+ghost use Rattle.word.specs.Profile.{LP5523};
+ghost use Rattle.grammar.specs.Grammar.{directionOf};
+ghost use Rattle.grammar.specs.Tables.{listOf};
+ghost use Rattle.op_lines.specs.Words.{wordOf};
 
 fn direction_of(sign: u16) -> Direction
     ensures { λ r. ⌜ r ≡ directionOf sign ⌝ }
@@ -23,141 +26,157 @@ fn direction_of(sign: u16) -> Direction
     Direction::Down
 }
 
-fn ramp(p: Parts) -> Word
-    ensures { λ r. ⌜ r ≡ Ramp (p .a) (p .b) (directionOf (p .c)) (p .d) ⌝ }
+fn ramp(v: Values) -> Word
+    ensures { λ r. ⌜ r ≡ Ramp (v .b) (v .c) (directionOf (v .d)) (v .e) ⌝ }
 {
     Word::Ramp {
-        prescale: p.a,
-        time: p.b,
-        dir: direction_of(p.c),
-        count: p.d,
+        prescale: v.b,
+        time: v.c,
+        dir: direction_of(v.d),
+        count: v.e,
     }
 }
 
-fn ramp_var(p: Parts) -> Word
-    ensures { λ r. ⌜ r ≡ RampVar (p .a) (directionOf (p .b)) (p .c) (p .d) ⌝ }
+fn wait(v: Values) -> Word
+    ensures { λ r. ⌜ r ≡ Wait (v .b) (v .c) ⌝ }
+{
+    Word::Wait {
+        prescale: v.b,
+        time: v.c,
+    }
+}
+
+fn ramp_var(v: Values) -> Word
+    ensures { λ r. ⌜ r ≡ RampVar (v .b) (directionOf (v .c)) (v .d) (v .e) ⌝ }
 {
     Word::RampVar {
-        prescale: p.a,
-        dir: direction_of(p.b),
-        time: p.c,
-        count: p.d,
+        prescale: v.b,
+        dir: direction_of(v.c),
+        time: v.d,
+        count: v.e,
     }
 }
 
-fn branch_var(p: Parts) -> Word
-    ensures { λ r. ⌜ r ≡ BranchVar (p .a) (stepAt (p .b)) ⌝ }
+fn branch_var(v: Values) -> Word
+    ensures { λ r. ⌜ r ≡ BranchVar (v .b) (stepAt (v .c)) ⌝ }
 {
     Word::BranchVar {
-        loops: p.a,
-        step: Step(p.b),
+        loops: v.b,
+        step: Step(v.c),
     }
 }
 
-fn branch(p: Parts) -> Word
-    ensures { λ r. ⌜ r ≡ Branch (p .a) (stepAt (p .b)) ⌝ }
+fn branch(v: Values) -> Word
+    ensures { λ r. ⌜ r ≡ Branch (v .b) (stepAt (v .c)) ⌝ }
 {
     Word::Branch {
-        loops: p.a,
-        step: Step(p.b),
+        loops: v.b,
+        step: Step(v.c),
     }
 }
 
-fn jump(op: JumpOp, p: Parts) -> Word
-    ensures { λ r. ⌜ r ≡ Jump op (p .a) (p .b) (p .c) ⌝ }
+fn jump(op: JumpOp, v: Values) -> Word
+    ensures { λ r. ⌜ r ≡ Jump op (v .b) (v .c) (v .d) ⌝ }
 {
     Word::Jump {
         op,
-        skip: p.a,
-        left: p.b,
-        right: p.c,
+        skip: v.b,
+        left: v.c,
+        right: v.d,
     }
 }
 
-fn arith(op: ArithOp, p: Parts) -> Word
-    ensures { λ r. ⌜ r ≡ Arith op (p .a) (p .b) ⌝ }
+fn arith(op: ArithOp, v: Values) -> Word
+    ensures { λ r. ⌜ r ≡ Arith op (v .b) (v .c) ⌝ }
 {
     Word::Arith {
         op,
-        to: p.a,
-        value: p.b,
+        to: v.b,
+        value: v.c,
     }
 }
 
-fn arith_var(op: ArithVarOp, p: Parts) -> Word
-    ensures { λ r. ⌜ r ≡ ArithVar op (p .a) (p .b) (p .c) ⌝ }
+fn arith_var(op: ArithVarOp, v: Values) -> Word
+    ensures { λ r. ⌜ r ≡ ArithVar op (v .b) (v .c) (v .d) ⌝ }
 {
     Word::ArithVar {
         op,
-        to: p.a,
-        left: p.b,
-        right: p.c,
+        to: v.b,
+        left: v.c,
+        right: v.d,
     }
 }
 
-fn mux_at(op: MuxAtOp, p: Parts) -> Word
-    ensures { λ r. ⌜ r ≡ MuxAt op (addressAt (p .a)) ⌝ }
+fn mux_at(op: MuxAtOp, v: Values) -> Word
+    ensures { λ r. ⌜ r ≡ MuxAt op (addressAt (v .b)) ⌝ }
 {
     Word::MuxAt {
         op,
-        address: Address(p.a),
+        address: Address(v.b),
     }
 }
 
-// The word whose parts these are; Undefined where there is none.
-pub fn word_of(p: Parts) -> Word
-    ensures { λ r. ⌜ r ≡ wordOf p ⌝ }
+fn mux_move(op: MuxMoveOp) -> Word
+    ensures { λ r. ⌜ r ≡ MuxMove op ⌝ }
 {
-    let op = p.op;
+    Word::MuxMove { op }
+}
+
+fn end(v: Values) -> Word
+    ensures { λ r. ⌜ r ≡ End (v .b) (v .c) ⌝ }
+{
+    Word::End {
+        int: v.b,
+        reset: v.c,
+    }
+}
+
+fn trigger(v: Values) -> Word
+    ensures { λ r. ⌜ r ≡ Trigger (v .b) (v .c) ⌝ }
+{
+    Word::Trigger {
+        wait: v.b,
+        send: v.c,
+    }
+}
+
+// The word of the operation at the first value's place; Undefined where there is none.
+pub fn word_of(v: Values) -> Word
+    ensures { λ r. ⌜ r ≡ wordOf LP5523 (listOf v) ⌝ }
+{
+    let op = v.a;
     match op {
         0 => Word::Rst,
-        1 => ramp(p),
-        2 => Word::Wait {
-            prescale: p.a,
-            time: p.b,
-        },
-        3 => Word::Set { value: p.a },
-        4 => ramp_var(p),
-        5 => Word::SetVar { from: p.a },
-        6 => branch_var(p),
-        7 => jump(JumpOp::Jne, p),
-        8 => jump(JumpOp::Jl, p),
-        9 => jump(JumpOp::Jge, p),
-        10 => jump(JumpOp::Je, p),
-        11 => arith(ArithOp::Ld, p),
-        12 => arith(ArithOp::Add, p),
-        13 => arith(ArithOp::Sub, p),
-        14 => arith_var(ArithVarOp::AddVar, p),
-        15 => arith_var(ArithVarOp::SubVar, p),
-        16 => mux_at(MuxAtOp::MuxMapStart, p),
-        17 => mux_at(MuxAtOp::MuxLdEnd, p),
-        18 => mux_at(MuxAtOp::MuxLdStart, p),
-        19 => mux_at(MuxAtOp::MuxLdAddr, p),
-        20 => mux_at(MuxAtOp::MuxMapAddr, p),
+        1 => ramp(v),
+        2 => wait(v),
+        3 => Word::Set { value: v.b },
+        4 => ramp_var(v),
+        5 => Word::SetVar { from: v.b },
+        6 => branch_var(v),
+        7 => jump(JumpOp::Jne, v),
+        8 => jump(JumpOp::Jl, v),
+        9 => jump(JumpOp::Jge, v),
+        10 => jump(JumpOp::Je, v),
+        11 => arith(ArithOp::Ld, v),
+        12 => arith(ArithOp::Add, v),
+        13 => arith(ArithOp::Sub, v),
+        14 => arith_var(ArithVarOp::AddVar, v),
+        15 => arith_var(ArithVarOp::SubVar, v),
+        16 => mux_at(MuxAtOp::MuxMapStart, v),
+        17 => mux_at(MuxAtOp::MuxLdEnd, v),
+        18 => mux_at(MuxAtOp::MuxLdStart, v),
+        19 => mux_at(MuxAtOp::MuxLdAddr, v),
+        20 => mux_at(MuxAtOp::MuxMapAddr, v),
         21 => Word::MuxClr,
-        22 => Word::MuxSel { output: p.a },
-        23 => Word::MuxMove {
-            op: MuxMoveOp::MuxMapNext,
-        },
-        24 => Word::MuxMove {
-            op: MuxMoveOp::MuxLdNext,
-        },
-        25 => Word::MuxMove {
-            op: MuxMoveOp::MuxMapPrev,
-        },
-        26 => Word::MuxMove {
-            op: MuxMoveOp::MuxLdPrev,
-        },
-        27 => branch(p),
-        28 => Word::End {
-            int: p.a,
-            reset: p.b,
-        },
+        22 => Word::MuxSel { output: v.b },
+        23 => mux_move(MuxMoveOp::MuxMapNext),
+        24 => mux_move(MuxMoveOp::MuxLdNext),
+        25 => mux_move(MuxMoveOp::MuxMapPrev),
+        26 => mux_move(MuxMoveOp::MuxLdPrev),
+        27 => branch(v),
+        28 => end(v),
         29 => Word::Int,
-        30 => Word::Trigger {
-            wait: p.a,
-            send: p.b,
-        },
+        30 => trigger(v),
         _ => Word::Undefined,
     }
 }

@@ -10,7 +10,7 @@ use Rattle.word.specs.Table.{Line, line, none, lineOf, fits, every, encodeLine,
 use Rattle.word.specs.declared.Word.{Word}
 use Rattle.word.proofs.Theorems.{refuses-up-by-zero}
 use Rattle.grammar.specs.Theorems.{fitsOp}
-use Rattle.op_lines.specs.Lines.{opValues}
+use Rattle.op_lines.specs.Values.{opValues}
 use Rattle.op_lines.proofs.Written.{codes, RampByZero, written}
 
 -- a ramp up by 0 has no code

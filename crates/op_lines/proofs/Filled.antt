@@ -3,28 +3,27 @@ use Prim.Native.Nat.{ℕ, zero, suc, _<_}
 use mathlib.Core.Bool.{Bool, true, false, cond, and-eq-true-iff, false≢true}
 use mathlib.Core.List.{List, [], _∷_, map}
 use mathlib.Core.Path.{_≡_, refl, sym, ap, ap₂, _∙_}
-use native.Mathlib.Nat.{le-of-suc-le-suc, not-suc-le-zero}
 use native.Mathlib.Omega.{arith}
 use lib.Dec.{eqb, ltb}
 use lib.ListN.{length, getD, List·getD-map}
 use borrow.Author.Tests.{ltb-true, eqb-true}
 use Rattle.word.specs.Profile.{Profile, LP5523}
 use Rattle.word.specs.declared.Word.the-variants.{Undefined}
-use Rattle.parts.specs.declared.Parts.{Parts}
-use Rattle.parts.specs.Parts.{parts, signOf}
 use Rattle.grammar.specs.Form.{Kind, number, word, decision, Pair}
-use Rattle.grammar.specs.Grammar.{opForm}
+use Rattle.grammar.specs.Grammar.{directionOf, opForm}
+use Rattle.grammar.specs.declared.Values.{Values}
+use Rattle.grammar.specs.Tables.{listOf}
 use Rattle.grammar.specs.Theorems.{isEmpty, fitsKind, fitsAfter, fitsForm, fitsOp}
-use Rattle.grammar.proofs.Tables.{tabulate}
-use Rattle.op_lines.specs.Words.{directionOf, wordsWith, wordOf}
-use Rattle.op_lines.specs.Lines.{partsIn, opValues}
+use Rattle.grammar.proofs.Tables.{tabulate, tabled}
+use Rattle.op_lines.specs.Words.{wordsWith, wordOf}
+use Rattle.op_lines.specs.Values.{directionPlace, opValues}
 
 -- ---- the values that a form takes from some numbers
 
 -- Where a pair has one of two words, they are the directions: a word keeps its direction, and not the number.
 abbrev taken : Kind → ℕ → ℕ
 taken (number rs) n = n
-taken (word ws) n = cond (eqb (length ws) 2) (signOf (directionOf n)) n
+taken (word ws) n = cond (eqb (length ws) 2) (directionPlace (directionOf n)) n
 taken decision n = n
 
 abbrev after : Kind → ℕ → List ℕ → List ℕ
@@ -36,17 +35,17 @@ unfoldable valuesFrom : List Pair → (ℕ → ℕ) → List ℕ
 valuesFrom [] g = []
 valuesFrom (f ∷ fs) g = taken (f .kind) (g 0) ∷ after (f .kind) (g 0) (valuesFrom fs (λ j. g (suc j)))
 
-sign-kept : (n : ℕ) → n < 2 → signOf (directionOf n) ≡ n
-sign-kept zero h = refl
-sign-kept (suc zero) h = refl
-sign-kept (suc (suc n)) h = absurd (omega arith)
+direction-kept : (n : ℕ) → n < 2 → directionPlace (directionOf n) ≡ n
+direction-kept zero h = refl
+direction-kept (suc zero) h = refl
+direction-kept (suc (suc n)) h = absurd (omega arith)
 
 taken-fits : (k : Kind) (n : ℕ) → fitsKind k n ≡ true → taken k n ≡ n
 taken-fits (number rs) n h = refl
 taken-fits (word ws) n h = go (eqb (length ws) 2) refl
   where
-    go : (b : Bool) → eqb (length ws) 2 ≡ b → cond b (signOf (directionOf n)) n ≡ n
-    go true e = let l = ltb-true n (length ws) h in let m = eqb-true (length ws) 2 e in sign-kept n (omega arith)
+    go : (b : Bool) → eqb (length ws) 2 ≡ b → cond b (directionPlace (directionOf n)) n ≡ n
+    go true e = let l = ltb-true n (length ws) h in let m = eqb-true (length ws) 2 e in direction-kept n (omega arith)
     go false e = refl
 taken-fits decision n h = refl
 
@@ -71,30 +70,29 @@ form-filled (f ∷ fs) (n ∷ ns) h =
 
 -- ---- the words with some operands, at each place of the table
 
-at-each : {A : Type 0} (n : ℕ) (f : ℕ → A) (d : A) (k : ℕ) → k < n → getD (tabulate n f) k d ≡ f k
-at-each zero f d k h = absurd (not-suc-le-zero h)
-at-each (suc n) f d zero h = refl
-at-each (suc n) f d (suc k) h = at-each n (λ i. f (suc i)) d k (le-of-suc-le-suc h)
-
 -- the whole table by one computation
-words-values : (g : ℕ → ℕ) → map (opValues LP5523) (wordsWith (g 0) (g 1) (g 2) (g 3)) ≡ tabulate 31 (λ o. o ∷ valuesFrom (opForm LP5523 o) g)
+words-values : (g : ℕ → ℕ) → map (opValues LP5523) (wordsWith LP5523 (g 0) (g 1) (g 2) (g 3)) ≡ tabulate 31 (λ o. o ∷ valuesFrom (opForm LP5523 o) g)
 unfolding opValues opForm valuesFrom
 words-values g = refl
 
-word-values : (o : ℕ) (g : ℕ → ℕ) → o < 31 → opValues LP5523 (wordOf (parts o (g 0) (g 1) (g 2) (g 3))) ≡ o ∷ valuesFrom (opForm LP5523 o) g
-word-values o g h =
+word-values : (o : ℕ) (ns : List ℕ) → o < 31 → opValues LP5523 (wordOf LP5523 (o ∷ ns)) ≡ o ∷ valuesFrom (opForm LP5523 o) (λ j. getD ns j 0)
+word-values o ns h =
     let none = opValues LP5523 Undefined in
-    sym (List·getD-map (opValues LP5523) (wordsWith (g 0) (g 1) (g 2) (g 3)) o Undefined)
-    ∙ ap (λ (l : List (List ℕ)). getD l o none) (words-values g)
-    ∙ at-each 31 (λ o. o ∷ valuesFrom (opForm LP5523 o) g) none o h
+    let g : ℕ → ℕ = λ j. getD ns j 0 in
+    sym (List·getD-map (opValues LP5523) (wordsWith LP5523 (g 0) (g 1) (g 2) (g 3)) o Undefined)
+    ∙ tabled _ 31 (λ o. o ∷ valuesFrom (opForm LP5523 o) g) none (words-values g) o h
 
--- a word's first value is its operation
-pub first-value : (p : Parts) → p .op < 31 → getD (opValues LP5523 (wordOf p)) 0 0 ≡ p .op
-first-value p h = ap (λ (ns : List ℕ). getD ns 0 0) (word-values (p .op) (λ j. getD (p .a ∷ p .b ∷ p .c ∷ p .d ∷ []) j 0) h)
+-- the first value of the word of a row is the row, and that of the undefined word is past the last
+pub defined : (v : Values) → v .a < 31 → wordOf LP5523 (listOf v) ≡ Undefined → ⊥
+unfolding listOf opValues
+defined v h u =
+    let w = word-values (v .a) (v .b ∷ v .c ∷ v .d ∷ v .e ∷ v .f ∷ v .g ∷ []) h in
+    let e : v .a ≡ 31 = ap (λ (ms : List ℕ). getD ms 0 0) (sym w ∙ ap (opValues LP5523) u) in
+    omega arith
 
-pub filled : (P : Profile) (ns : List ℕ) → fitsOp P ns ≡ true → opValues P (wordOf (partsIn ns)) ≡ ns
+pub filled : (P : Profile) (ns : List ℕ) → fitsOp P ns ≡ true → opValues P (wordOf P ns) ≡ ns
 unfolding fitsOp
 filled LP5523 [] h = absurd (false≢true h)
 filled LP5523 (o ∷ ns) h =
     let q = and-eq-true-iff (ltb o 31) (fitsForm (opForm LP5523 o) ns) .0 h in
-    word-values o (λ j. getD ns j 0) (ltb-true o 31 (q .0)) ∙ ap (λ (ms : List ℕ). o ∷ ms) (form-filled (opForm LP5523 o) ns (q .1))
+    word-values o ns (ltb-true o 31 (q .0)) ∙ ap (λ (ms : List ℕ). o ∷ ms) (form-filled (opForm LP5523 o) ns (q .1))

@@ -6,4 +6,5 @@ pub mod Numbers
 pub mod Refusals
 pub mod Answered
 pub mod Room
+pub mod Samples
 pub mod Theorems

@@ -14,7 +14,7 @@ use Rattle.grammar.specs.Grammar.{readLine}
 use Rattle.grammar.specs.Conditions as grammar
 use Rattle.grammar.specs.Conditions.{LineWellFormed, LineUnknown, LineOutside}
 use Rattle.op_lines.specs.Words.{wordOf}
-use Rattle.op_lines.specs.Lines.{partsIn, coded, assembleLineOf}
+use Rattle.op_lines.specs.Lines.{coded, assembleLineOf}
 use Rattle.op_lines.specs.Theorems.{UpByZero, Exactly}
 use Rattle.op_lines.proofs.Numbers.{refused-number, zero-number, Outcome, code, unread, byZero, outcome}
 
@@ -23,7 +23,7 @@ module _ (P : Profile) (line : List ℕ) (reader : grammar.Exactly P Op line) wh
   pub record CodeValues (w : ℕ) : Type 0 where
     pub all : List ℕ
     pub are : readLine P Op line ≡ values all
-    pub have : encodeOf P (wordOf (partsIn all)) ≡ success w
+    pub have : encodeOf P (wordOf P all) ≡ success w
 
   -- no refusal is the code 0, since no refusal has the number 0
   pub code-values : (w : ℕ) → assembleLineOf P line ≡ success w → CodeValues w
@@ -72,7 +72,7 @@ module _ (P : Profile) (line : List ℕ) (reader : grammar.Exactly P Op line) wh
       go : Outcome P line → Is22
       go (code z) = absurd (omega arith)
       go (unread k q) = let h = reader .is22 .0 (reader-number q e) in (h .0, h .1, inl (h .2))
-      go (byZero u) = let h = values-known (u .2) in (h .0, h .1, inr u)
+      go (byZero u) = let h = values-known (u .3) in (h .0, h .1, inr u)
 
   to-22 : Is22 → assembleLineOf P line .number ≡ 22
   to-22 (f, n, inl o) = refused-number P line (reader .is22 .1 (f, n, o))

@@ -17,10 +17,12 @@ use Rattle.word.specs.declared.MuxMoveOp.the-variants.{MuxMapNext, MuxLdNext, M
 use Rattle.word.specs.declared.Word.{Word}
 use Rattle.word.specs.declared.Word.the-variants.{Rst, Ramp, Wait, Set, RampVar, SetVar, BranchVar, Jump, Arith, ArithVar, MuxAt, MuxClr, MuxSel, MuxMove, Branch, End, Int, Trigger, Undefined}
 use Rattle.word.proofs.Fields.{from-least}
-use Rattle.grammar.specs.Grammar.{opForm}
+use Rattle.grammar.specs.Form.{continued, writeForm}
+use Rattle.grammar.specs.Grammar.{opForm, writeOp}
+use Rattle.grammar.specs.Tables.{valuesOf, listOf}
 use Rattle.grammar.specs.Theorems.{fitsForm, fitsOp}
 use Rattle.op_lines.specs.Words.{wordOf}
-use Rattle.op_lines.specs.Lines.{partsIn, opValues}
+use Rattle.op_lines.specs.Values.{opValues, wordValues}
 use Rattle.op_lines.proofs.Fits.{one, two, three, number-fits, variable-fits, target-fits}
 
 -- Whether the word of a line of the table has a code.
@@ -32,13 +34,16 @@ codes P none = false
 abbrev pub RampByZero : Word → Type 0
 RampByZero i = (p : ℕ) × (t : ℕ) × (i ≡ Ramp p t Up 0)
 
+-- `padded`: the zeros after a word's last operand, where there is room for seven values, are not written.
 pub record Written (P : Profile) (i : Word) : Type 0 where
-  pub again : wordOf (partsIn (opValues P i)) ≡ i
+  pub again : wordOf P (opValues P i) ≡ i
+  pub padded : writeOp P (listOf (wordValues P i)) ≡ writeOp P (opValues P i)
   pub fitting : RampByZero i ⊎ (fitsOp P (opValues P i) ≡ codes P (lineOf i))
 
 -- a word whose values fit exactly where it has a code
-coded : {P : Profile} {i : Word} → wordOf (partsIn (opValues P i)) ≡ i → fitsOp P (opValues P i) ≡ codes P (lineOf i) → Written P i
-coded a f = record { again = a; fitting = inr f }
+coded : {P : Profile} {i : Word} → wordOf P (opValues P i) ≡ i → writeOp P (listOf (wordValues P i)) ≡ writeOp P (opValues P i)
+    → fitsOp P (opValues P i) ≡ codes P (lineOf i) → Written P i
+coded a p f = record { again = a; padded = p; fitting = inr f }
 
 -- the table and the line name the operands of a branch by a variable in different orders
 swapped : {a b x y : Bool} → a ≡ x → b ≡ y → (a && (b && true)) ≡ (y && (x && true))
@@ -50,40 +55,40 @@ swapped {x} {y} p q = two p q ∙ turn x y
     turn false false = refl
 
 pub written : (P : Profile) (i : Word) → Written P i
-unfolding opValues opForm fitsForm fitsOp
-written LP5523 Rst = coded refl refl
-written LP5523 (Ramp p t Up zero) = record { again = refl; fitting = inl (p, t, refl) }
+unfolding opValues opForm fitsForm fitsOp listOf valuesOf writeOp writeForm continued
+written LP5523 Rst = coded refl refl refl
+written LP5523 (Ramp p t Up zero) = record { again = refl; padded = refl; fitting = inl (p, t, refl) }
 written LP5523 (Ramp p t Up (suc n)) =
-    coded refl (three (number-fits flag p) (number-fits time t) (number-fits byte (suc n) ∙ sym (from-least 1 255 (suc n) (omega arith))))
-written LP5523 (Ramp p t Down n) = coded refl (three (number-fits flag p) (number-fits time t) (number-fits byte n))
-written LP5523 (Wait p t) = coded refl (two (number-fits flag p) (number-fits time t))
-written LP5523 (Set n) = coded refl (one (number-fits byte n))
-written LP5523 (RampVar p Up l r) = coded refl (three (number-fits flag p) (variable-fits l) (variable-fits r))
-written LP5523 (RampVar p Down l r) = coded refl (three (number-fits flag p) (variable-fits l) (variable-fits r))
-written LP5523 (SetVar v) = coded refl (one (variable-fits v))
-written LP5523 (BranchVar v s) = coded refl (swapped (variable-fits v) (number-fits step (s .0)))
-written LP5523 (Jump Jne k l r) = coded refl (three (number-fits skip k) (variable-fits l) (variable-fits r))
-written LP5523 (Jump Jl k l r) = coded refl (three (number-fits skip k) (variable-fits l) (variable-fits r))
-written LP5523 (Jump Jge k l r) = coded refl (three (number-fits skip k) (variable-fits l) (variable-fits r))
-written LP5523 (Jump Je k l r) = coded refl (three (number-fits skip k) (variable-fits l) (variable-fits r))
-written LP5523 (Arith Ld v n) = coded refl (two (target-fits v) (number-fits byte n))
-written LP5523 (Arith Add v n) = coded refl (two (target-fits v) (number-fits byte n))
-written LP5523 (Arith Sub v n) = coded refl (two (target-fits v) (number-fits byte n))
-written LP5523 (ArithVar AddVar v l r) = coded refl (three (target-fits v) (variable-fits l) (variable-fits r))
-written LP5523 (ArithVar SubVar v l r) = coded refl (three (target-fits v) (variable-fits l) (variable-fits r))
-written LP5523 (MuxAt MuxMapStart a) = coded refl (one (number-fits address (a .0)))
-written LP5523 (MuxAt MuxLdEnd a) = coded refl (one (number-fits address (a .0)))
-written LP5523 (MuxAt MuxLdStart a) = coded refl (one (number-fits address (a .0)))
-written LP5523 (MuxAt MuxLdAddr a) = coded refl (one (number-fits address (a .0)))
-written LP5523 (MuxAt MuxMapAddr a) = coded refl (one (number-fits address (a .0)))
-written LP5523 MuxClr = coded refl refl
-written LP5523 (MuxSel k) = coded refl (one (number-fits output k))
-written LP5523 (MuxMove MuxMapNext) = coded refl refl
-written LP5523 (MuxMove MuxLdNext) = coded refl refl
-written LP5523 (MuxMove MuxMapPrev) = coded refl refl
-written LP5523 (MuxMove MuxLdPrev) = coded refl refl
-written LP5523 (Branch c s) = coded refl (two (number-fits loops c) (number-fits step (s .0)))
-written LP5523 (End i z) = coded refl (two (number-fits flag i) (number-fits flag z))
-written LP5523 Int = coded refl refl
-written LP5523 (Trigger w x) = coded refl (two (number-fits triggers w) (number-fits triggers x))
-written LP5523 Undefined = coded refl refl
+    coded refl refl (three (number-fits flag p) (number-fits time t) (number-fits byte (suc n) ∙ sym (from-least 1 255 (suc n) (omega arith))))
+written LP5523 (Ramp p t Down n) = coded refl refl (three (number-fits flag p) (number-fits time t) (number-fits byte n))
+written LP5523 (Wait p t) = coded refl refl (two (number-fits flag p) (number-fits time t))
+written LP5523 (Set n) = coded refl refl (one (number-fits byte n))
+written LP5523 (RampVar p Up l r) = coded refl refl (three (number-fits flag p) (variable-fits l) (variable-fits r))
+written LP5523 (RampVar p Down l r) = coded refl refl (three (number-fits flag p) (variable-fits l) (variable-fits r))
+written LP5523 (SetVar v) = coded refl refl (one (variable-fits v))
+written LP5523 (BranchVar v s) = coded refl refl (swapped (variable-fits v) (number-fits step (s .0)))
+written LP5523 (Jump Jne k l r) = coded refl refl (three (number-fits skip k) (variable-fits l) (variable-fits r))
+written LP5523 (Jump Jl k l r) = coded refl refl (three (number-fits skip k) (variable-fits l) (variable-fits r))
+written LP5523 (Jump Jge k l r) = coded refl refl (three (number-fits skip k) (variable-fits l) (variable-fits r))
+written LP5523 (Jump Je k l r) = coded refl refl (three (number-fits skip k) (variable-fits l) (variable-fits r))
+written LP5523 (Arith Ld v n) = coded refl refl (two (target-fits v) (number-fits byte n))
+written LP5523 (Arith Add v n) = coded refl refl (two (target-fits v) (number-fits byte n))
+written LP5523 (Arith Sub v n) = coded refl refl (two (target-fits v) (number-fits byte n))
+written LP5523 (ArithVar AddVar v l r) = coded refl refl (three (target-fits v) (variable-fits l) (variable-fits r))
+written LP5523 (ArithVar SubVar v l r) = coded refl refl (three (target-fits v) (variable-fits l) (variable-fits r))
+written LP5523 (MuxAt MuxMapStart a) = coded refl refl (one (number-fits address (a .0)))
+written LP5523 (MuxAt MuxLdEnd a) = coded refl refl (one (number-fits address (a .0)))
+written LP5523 (MuxAt MuxLdStart a) = coded refl refl (one (number-fits address (a .0)))
+written LP5523 (MuxAt MuxLdAddr a) = coded refl refl (one (number-fits address (a .0)))
+written LP5523 (MuxAt MuxMapAddr a) = coded refl refl (one (number-fits address (a .0)))
+written LP5523 MuxClr = coded refl refl refl
+written LP5523 (MuxSel k) = coded refl refl (one (number-fits output k))
+written LP5523 (MuxMove MuxMapNext) = coded refl refl refl
+written LP5523 (MuxMove MuxLdNext) = coded refl refl refl
+written LP5523 (MuxMove MuxMapPrev) = coded refl refl refl
+written LP5523 (MuxMove MuxLdPrev) = coded refl refl refl
+written LP5523 (Branch c s) = coded refl refl (two (number-fits loops c) (number-fits step (s .0)))
+written LP5523 (End i z) = coded refl refl (two (number-fits flag i) (number-fits flag z))
+written LP5523 Int = coded refl refl refl
+written LP5523 (Trigger w x) = coded refl refl (two (number-fits triggers w) (number-fits triggers x))
+written LP5523 Undefined = coded refl refl refl

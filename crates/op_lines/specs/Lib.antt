@@ -1,3 +1,4 @@
 pub mod Words
+pub mod Values
 pub mod Lines
 pub mod Theorems

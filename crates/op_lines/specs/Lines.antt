@@ -1,44 +1,31 @@
 -- Op lines and the words that they stand for.
 use Prim.Native.Nat.{ℕ}
 use mathlib.Core.Bool.{cond}
-use mathlib.Core.List.{List, [], _∷_, _++_}
+use mathlib.Core.List.{List, _++_}
 use lib.Dec.{eqb, leb}
-use lib.ListN.{length, getD, take, drop}
+use lib.ListN.{length, drop}
 use Rattle.word.specs.Profile.{Profile}
 use Rattle.word.specs.Answer.{Answer, success, refusal}
 use Rattle.word.specs.Table.{encodeOf}
 use Rattle.word.specs.Decode.{decodeOf}
-use Rattle.word.specs.declared.Word.{Word}
-use Rattle.parts.specs.declared.Parts.{Parts}
-use Rattle.parts.specs.Parts.{parts, partsOf}
 use Rattle.grammar.specs.declared.Form.the-variants.{Op}
 use Rattle.grammar.specs.Form.{Reading, values, refused}
-use Rattle.grammar.specs.Grammar.{opForm, readLine, writeLine}
+use Rattle.grammar.specs.Grammar.{readLine, writeLine}
 use Rattle.op_lines.specs.declared.WordLine.{WordLine}
 use Rattle.op_lines.specs.declared.WordLine.the-variants.{Code, Malformed, UnknownOp, OutsideField}
 use Rattle.op_lines.specs.declared.WordWritten.{WordWritten}
 use Rattle.op_lines.specs.declared.WordWritten.the-variants.{Length, UndefinedWord, TooShort}
 use Rattle.op_lines.specs.Words.{wordOf}
-
--- The values of an op line: its operation's place in the table, and its operands.
-abbrev pub partsIn : List ℕ → Parts
-partsIn ns = parts (getD ns 0 0) (getD ns 1 0) (getD ns 2 0) (getD ns 3 0) (getD ns 4 0)
+use Rattle.op_lines.specs.Values.{opValues}
 
 -- The word's code; "the encoder gives 22 for an operand outside its field or a ramp up by 0".
 abbrev pub coded : Profile → Reading → Answer
-coded P (values ns) = encodeOf P (wordOf (partsIn ns))
+coded P (values ns) = encodeOf P (wordOf P ns)
 coded P (refused k) = refusal k
 
 -- What a line stands for: the code of its word, or the number of its refusal.
 unfoldable pub assembleLineOf : Profile → List ℕ → Answer
 assembleLineOf P line = coded P (readLine P Op line)
-
--- A word's values: as many operands as its line has pairs.
-abbrev pub valuesIn : Profile → Parts → List ℕ
-valuesIn P p = p .op ∷ take (length (opForm P (p .op))) (p .a ∷ p .b ∷ p .c ∷ p .d ∷ [])
-
-unfoldable pub opValues : Profile → Word → List ℕ
-opValues P i = valuesIn P (partsOf i)
 
 -- The line of a code, without its LF.
 unfoldable pub opLineOf : Profile → ℕ → List ℕ

@@ -1,59 +1,17 @@
--- The word that the values of an op line stand for.
+-- The word that the values of an op line stand for, by the grammar's table (`opLines`).
 use Prim.Native.Nat.{ℕ}
-use mathlib.Core.Bool.{cond}
-use mathlib.Core.List.{List, [], _∷_}
-use lib.Dec.{eqb}
+use mathlib.Core.List.{List, [], _∷_, map}
 use lib.ListN.{getD}
-use Rattle.word.specs.Steps.{stepAt, addressAt}
-use Rattle.word.specs.declared.Direction.{Direction}
-use Rattle.word.specs.declared.Direction.the-variants.{Up, Down}
-use Rattle.word.specs.declared.JumpOp.the-variants.{Jne, Jl, Jge, Je}
-use Rattle.word.specs.declared.ArithOp.the-variants.{Ld, Add, Sub}
-use Rattle.word.specs.declared.ArithVarOp.the-variants.{AddVar, SubVar}
-use Rattle.word.specs.declared.MuxAtOp.the-variants.{MuxMapStart, MuxLdEnd, MuxLdStart, MuxLdAddr, MuxMapAddr}
-use Rattle.word.specs.declared.MuxMoveOp.the-variants.{MuxMapNext, MuxLdNext, MuxMapPrev, MuxLdPrev}
+use Rattle.word.specs.Profile.{Profile}
 use Rattle.word.specs.declared.Word.{Word}
-use Rattle.word.specs.declared.Word.the-variants.{Rst, Ramp, Wait, Set, RampVar, SetVar, BranchVar, Jump, Arith, ArithVar, MuxAt, MuxClr, MuxSel, MuxMove, Branch, End, Int, Trigger, Undefined}
-use Rattle.parts.specs.declared.Parts.{Parts}
+use Rattle.word.specs.declared.Word.the-variants.{Undefined}
+use Rattle.grammar.specs.Grammar.{OpLine, opLines}
 
-abbrev pub directionOf : ℕ → Direction
-directionOf n = cond (eqb n 0) Up Down
+-- The words with these operands, one for each row of the table.
+abbrev pub wordsWith : Profile → ℕ → ℕ → ℕ → ℕ → List Word
+wordsWith P a b c d = map (λ (l : OpLine). l .stands a b c d) (opLines P)
 
--- The words with these operands, in the order of the table.
-abbrev pub wordsWith : ℕ → ℕ → ℕ → ℕ → List Word
-wordsWith a b c d =
-    Rst ∷
-    Ramp a b (directionOf c) d ∷
-    Wait a b ∷
-    Set a ∷
-    RampVar a (directionOf b) c d ∷
-    SetVar a ∷
-    BranchVar a (stepAt b) ∷
-    Jump Jne a b c ∷
-    Jump Jl a b c ∷
-    Jump Jge a b c ∷
-    Jump Je a b c ∷
-    Arith Ld a b ∷
-    Arith Add a b ∷
-    Arith Sub a b ∷
-    ArithVar AddVar a b c ∷
-    ArithVar SubVar a b c ∷
-    MuxAt MuxMapStart (addressAt a) ∷
-    MuxAt MuxLdEnd (addressAt a) ∷
-    MuxAt MuxLdStart (addressAt a) ∷
-    MuxAt MuxLdAddr (addressAt a) ∷
-    MuxAt MuxMapAddr (addressAt a) ∷
-    MuxClr ∷
-    MuxSel a ∷
-    MuxMove MuxMapNext ∷
-    MuxMove MuxLdNext ∷
-    MuxMove MuxMapPrev ∷
-    MuxMove MuxLdPrev ∷
-    Branch a (stepAt b) ∷
-    End a b ∷
-    Int ∷
-    Trigger a b ∷ []
-
--- The word whose parts these are; Undefined where there is none.
-abbrev pub wordOf : Parts → Word
-wordOf p = getD (wordsWith (p .a) (p .b) (p .c) (p .d)) (p .op) Undefined
+-- The word of the row at the first value's place, with the other values as its operands; Undefined where there is no such row.
+abbrev pub wordOf : Profile → List ℕ → Word
+wordOf P [] = Undefined
+wordOf P (o ∷ ns) = getD (wordsWith P (getD ns 0 0) (getD ns 1 0) (getD ns 2 0) (getD ns 3 0)) o Undefined

@@ -1,4 +1,5 @@
 pub mod Laws
+pub mod Later
 pub mod Passes
 pub mod First
 pub mod Tests

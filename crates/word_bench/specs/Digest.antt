@@ -1,6 +1,6 @@
--- A word's parts folded into one number.
+-- The values of a word's line folded into one number; no word has more than five.
 use Prim.Native.Nat.{ℕ, _+_, _*_}
-use Rattle.parts.specs.declared.Parts.{Parts}
+use Rattle.grammar.specs.declared.Values.{Values}
 
-abbrev pub digestOf : Parts → ℕ
-digestOf p = (((p .op * 257 + p .a) * 257 + p .b) * 257 + p .c) * 257 + p .d
+abbrev pub digestOf : Values → ℕ
+digestOf v = (((v .a * 257 + v .b) * 257 + v .c) * 257 + v .d) * 257 + v .e

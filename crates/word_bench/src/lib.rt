@@ -3,9 +3,9 @@
 ghost use mathlib.Core.Path.{_≡_};
 ghost use Rattle.word.specs.Profile.{LP5523};
 ghost use Rattle.word.specs.Decode.{decodeOf};
-ghost use Rattle.parts.specs.Parts.{partsOf};
+ghost use Rattle.op_lines.specs.Values.{wordValues};
 ghost use Rattle.word_bench.specs.Digest.{digestOf};
-use parts::Parts;
+use grammar::Values;
 
 fn wide(x: u16) -> u64
     ensures { λ r. ⌜ r ≡ x ⌝ }
@@ -13,15 +13,15 @@ fn wide(x: u16) -> u64
     x as u64
 }
 
-fn digest(p: Parts) -> u64
-    ensures { λ r. ⌜ r ≡ digestOf p ⌝ }
+fn digest(v: Values) -> u64
+    ensures { λ r. ⌜ r ≡ digestOf v ⌝ }
 {
-    (((wide(p.op) * 257 + wide(p.a)) * 257 + wide(p.b)) * 257 + wide(p.c)) * 257 + wide(p.d)
+    (((wide(v.a) * 257 + wide(v.b)) * 257 + wide(v.c)) * 257 + wide(v.d)) * 257 + wide(v.e)
 }
 
 #[no_mangle]
 pub extern "C" fn word_digest(code: u16) -> u64
-    ensures { λ r. ⌜ r ≡ digestOf (partsOf (decodeOf LP5523 code)) ⌝ }
+    ensures { λ r. ⌜ r ≡ digestOf (wordValues LP5523 (decodeOf LP5523 code)) ⌝ }
 {
-    digest(parts::parts_of(decoder::decode(code)))
+    digest(op_codec::values_of(decoder::decode(code)))
 }

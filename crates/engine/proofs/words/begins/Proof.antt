@@ -1,10 +1,11 @@
 -- `engine::words::begins` meets its contract: each arm knows its case.
+use mathlib.Core.Path.{refl}
 use native.Mathlib.Omega.{arith}
 use borrow.Author.Needs.{needs}
-use Rattle.laws.proofs.Matches.{via}
 use Rattle.word.specs.Profile.{LP5523}
 use Rattle.machine.specs.Words.{begins}
-use Rattle.engine.proofs.Later.{from-6}
+use Rattle.laws.proofs.Matches.{via}
+use Rattle.plan.proofs.Later.{later}
 use Rattle.engine.proofs.words.begins.Statement.{statement}
 use Rattle.engine.proofs.words.begins.Tie as tie
 
@@ -26,7 +27,7 @@ begins-spec =
     (search needs)
     (search needs)
     (search needs)
-    (λ c κs. (c .before .before .pre .0, (c .before .before .pre .1, from-6 _ (c .before .match .keys7))))
+    (λ c κs. (c .before .before .pre .0, (c .before .before .pre .1, later 0 6 _ refl (omega arith) (c .before .match .keys7))))
     (λ c. via (begins LP5523 _ _ _ _ _) (c .restarts .ensures) (c .before .before .enum-told .given .1))
     (λ c. via (begins LP5523 _ _ _ _ _) (c .ramp .ensures _) (c .before .before .word .given .1))
     (λ c. via (begins LP5523 _ _ _ _ _) (c .wait .ensures _) (c .before .before .word2 .given .1))

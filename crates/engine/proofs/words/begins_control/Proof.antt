@@ -1,10 +1,11 @@
 -- `engine::words::begins_control` meets its contract: each arm knows its case.
+use mathlib.Core.Path.{refl}
 use native.Mathlib.Omega.{arith}
 use borrow.Author.Needs.{needs}
-use Rattle.laws.proofs.Matches.{via}
 use Rattle.word.specs.Profile.{LP5523}
 use Rattle.machine.specs.Words.{begins}
-use Rattle.engine.proofs.Later.{from-18, undefined}
+use Rattle.laws.proofs.Matches.{via}
+use Rattle.plan.proofs.Later.{later, undefined}
 use Rattle.engine.proofs.words.begins_control.Statement.{statement}
 use Rattle.engine.proofs.words.begins_control.Tie as tie
 
@@ -27,4 +28,4 @@ begins-control-spec =
     (λ c d memory. via (begins LP5523 _ _ _ _ _) (c .stops .ensures) (c .before .before .before .word2 .given .1))
     (λ c d memory. via (begins LP5523 _ _ _ _ _) (c .interrupts .ensures _) (c .before .enum-told .given .1))
     (λ c d memory. via (begins LP5523 _ _ _ _ _) (c .triggers .ensures _) (c .before .before .word3 .given .1))
-    (λ c d memory. via (begins LP5523 _ _ _ _ _) (c .faults .ensures _) (undefined (c .before .before .args .word) (from-18 _ (c .before .before .pre .1 .1) (c .before .match .keys5)))))
+    (λ c d memory. via (begins LP5523 _ _ _ _ _) (c .faults .ensures _) (undefined (c .before .before .args .word) (later 14 18 _ refl (c .before .before .pre .1 .1) (c .before .match .keys5)))))

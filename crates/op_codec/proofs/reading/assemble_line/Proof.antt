@@ -7,7 +7,7 @@ use Rattle.grammar.specs.declared.LineRead.the-variants.{Read, Refused}
 use Rattle.grammar.specs.Grammar.{readLine}
 use Rattle.grammar.specs.Tables.{lineReadOf}
 use Rattle.grammar.proofs.Exactly.{refuses-exactly}
-use Rattle.op_lines.proofs.Answered.{refused-as, read-op, read-code, refused-code}
+use Rattle.op_lines.proofs.Answered.{refused-as, read-code, refused-code}
 use Rattle.op_codec.proofs.reading.assemble_line.Statement.{statement}
 use Rattle.op_codec.proofs.reading.assemble_line.Tie as tie
 
@@ -24,8 +24,8 @@ assemble-line-spec =
     (tie.spec
     (λ c κs. search needs)
     (search needs)
-    (λ c κs. read-op _ (read (c .before)))
+    (λ c κs. read-code _ (read (c .before)) .0)
     (search needs)
     (λ c κs. refuses-exactly LP5523 Op _ .others _ (refused-as _ (unread (c .before))))
-    (λ c. c .code-of .ensures ∙ read-code _ (read (c .before .before)))
+    (λ c. c .code-of .ensures ∙ read-code _ (read (c .before .before)) .1)
     (λ c. c .refused .ensures ∙ refused-code _ (unread (c .before .before))))

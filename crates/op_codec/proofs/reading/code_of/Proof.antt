@@ -4,8 +4,8 @@ use borrow.Author.Needs.{needs}
 use Rattle.word.specs.Answer.{answerOf}
 use Rattle.word.specs.Profile.{LP5523}
 use Rattle.word.specs.Table.{encodeOf}
-use Rattle.parts.specs.Parts.{parts}
-use Rattle.op_lines.proofs.Answered.{defined, no-code}
+use Rattle.op_lines.proofs.Filled.{defined}
+use Rattle.op_lines.proofs.Answered.{no-code}
 use Rattle.op_codec.proofs.reading.code_of.Statement.{statement}
 use Rattle.op_codec.proofs.reading.code_of.Tie as tie
 
@@ -19,8 +19,7 @@ code-of-spec =
     (λ c.
     let e = c .before in
     let i = e .before in
-    let v = i .before .args .v in
-    no-code (e .encode .result) (c .match .keys2) (e .encode .ensures ∙ ap (encodeOf LP5523) (i .word-of .ensures)) (defined (parts (v .a) (v .b) (v .c) (v .d) (v .e)) (i .before .pre)))
+    no-code (e .encode .result) (c .match .keys2) (e .encode .ensures ∙ ap (encodeOf LP5523) (i .word-of .ensures)) (defined (i .before .args .v) (i .before .pre)))
     (λ c.
     let e = c .before .before .before in
     ap answerOf (sym (c .before .coded .given .1)) ∙ e .encode .ensures ∙ ap (encodeOf LP5523) (e .before .word-of .ensures)))
