@@ -16,6 +16,32 @@ use Rattle.grammar.specs.declared.LineRead.the-variants.{Read, Refused}
 use Rattle.grammar.specs.Form.{Kind, number, word, decision, answers, Pair, Reading, values, refused, before, atEnd, unknown}
 use Rattle.grammar.specs.Grammar.{OpLine, opLines, opNames, directions, variables, targets, planForm}
 
+-- How many entries the tables have: operations, names, the bytes of all names, kinds of numbers, all kinds, pairs, forms.
+abbrev pub opCount : ℕ
+opCount = 31
+
+abbrev pub nameCount : ℕ
+nameCount = 64
+
+abbrev pub byteCount : ℕ
+byteCount = 337
+
+abbrev pub numberKinds : ℕ
+numberKinds = 12
+
+abbrev pub kindCount : ℕ
+kindCount = 16
+
+abbrev pub pairCount : ℕ
+pairCount = 71
+
+abbrev pub formCount : ℕ
+formCount = 34
+
+-- The place of the kind of a yes or no.
+abbrev pub decisionKind : ℕ
+decisionKind = 15
+
 unfoldable pub keys : List (List ℕ)
 keys = ascii "prescale" ∷ ascii "time" ∷ ascii "dir" ∷ ascii "count" ∷ ascii "value" ∷ ascii "from" ∷ ascii "loops" ∷ ascii "step" ∷ ascii "skip" ∷ ascii "left" ∷ ascii "right" ∷ ascii "to" ∷ ascii "address" ∷ ascii "output" ∷ ascii "int" ∷ ascii "reset" ∷ ascii "wait" ∷ ascii "send" ∷ ascii "engine" ∷ ascii "use" ∷ ascii "first" ∷ ascii "last" ∷ ascii "table" ∷ ascii "top" ∷ ascii "bottom" ∷ []
 

@@ -11,6 +11,7 @@ pub use entries::LOW;
 pub use entries::NAME_AT;
 pub use entries::NAMES;
 pub use entries::NUMBERS;
+pub use entries::OPS;
 pub use entries::PAIR_KEY;
 pub use entries::PAIR_KIND;
 pub use entries::WORD_COUNT;

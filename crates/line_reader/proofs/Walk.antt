@@ -20,7 +20,7 @@ use Rattle.grammar.specs.declared.Value.{Value}
 use Rattle.grammar.specs.declared.Value.the-variants.{Number, Malformed, Outside}
 use Rattle.grammar.specs.Form.{Kind, number, word, decision, Pair, Reading, values, refused, placeOf, readWord, held, readValue, readPair, before, allPairs, atEnd, decided, followed, readForm}
 use Rattle.grammar.specs.Grammar.{number16, named, readOp}
-use Rattle.grammar.specs.Tables.{names, pairs, pairAt, formOf, stopsAt, stoppedBy, partsFrom, valuesOf, lineReadOf, beforeRead}
+use Rattle.grammar.specs.Tables.{opCount, nameCount, pairCount, names, pairs, pairAt, formOf, stopsAt, stoppedBy, partsFrom, valuesOf, lineReadOf, beforeRead}
 use Rattle.grammar.proofs.Value as variants
 use Rattle.grammar.proofs.Places.{word-read}
 use Rattle.grammar.proofs.Ranges.{other-value}
@@ -119,7 +119,7 @@ pairs-none end pair h =
     let z : end - pair ≡ 0 = omega arith in
     ap (λ (n : ℕ). take n (drop pair pairs)) z
 
-pub pairs-step : (end pair : ℕ) → pair < end → end ≤ 71 → pairsTo end pair ≡ pairAt pair ∷ pairsTo end (pair + 1)
+pub pairs-step : (end pair : ℕ) → pair < end → end ≤ pairCount → pairsTo end pair ≡ pairAt pair ∷ pairsTo end (pair + 1)
 unfolding pairAt
 pairs-step end pair h l =
     let n = end - (pair + 1) in
@@ -135,7 +135,7 @@ module _ (end pair at : ℕ) (line : List ℕ) where
   unfolding readForm
   form-done h = ap (λ (fs : List Pair). readForm fs (partsFrom at line)) (pairs-none end pair h)
 
-  module _ (h : pair < end) (l : end ≤ 71) where
+  module _ (h : pair < end) (l : end ≤ pairCount) where
     pub form-short : length line < at → readForm (pairsTo end pair) (partsFrom at line) ≡ refused 20
     unfolding readForm
     form-short m = (λ i. readForm (pairs-step end pair h l i) (parts-end at line m i))
@@ -169,7 +169,7 @@ single-form k line part is = ap (readForm (number16 k ∷ [])) (first-part line 
 abbrev pub wordsFrom : ℕ → ℕ → List (List ℕ)
 wordsFrom first count = take count (drop first names)
 
-module _ (first count : ℕ) (fit : first + count ≤ 64) where
+module _ (first count : ℕ) (fit : first + count ≤ nameCount) where
   pub words-count : length (wordsFrom first count) ≡ count
   words-count = length-take-le count (drop first names) (omega (arith, length-drop first names, names-length))
 
@@ -196,21 +196,21 @@ module _ (first count : ℕ) (fit : first + count ≤ 64) where
 -- ---- the line of an operation
 
 -- its name is read first
-pub op-line : (line part : List ℕ) (v : Value) → part ≡ partAt space 0 line → v ≡ readWord (wordsFrom 0 31) (valueOf (ascii "op") part)
+pub op-line : (line part : List ℕ) (v : Value) → part ≡ partAt space 0 line → v ≡ readWord (wordsFrom 0 opCount) (valueOf (ascii "op") part)
     → readOp LP5523 (split space line) ≡ named LP5523 v (partsFrom (length part + 1) line)
 unfolding readOp
 op-line line part v is e =
     ap (readOp LP5523) (first-part line part is)
     ∙ ap (λ (x : Value). named LP5523 x (partsFrom (length part + 1) line)) (ap (λ (ws : List (List ℕ)). readWord ws (valueOf (ascii "op") part)) ops-first ∙ sym e)
 
-pub op-small : (v : List ℕ) (o : ℕ) → readWord (wordsFrom 0 31) v ≡ Number o → o < 31
-op-small v o e = omega (arith, word-read (wordsFrom 0 31) o v e .1, words-count 0 31 (omega arith))
+pub op-small : (v : List ℕ) (o : ℕ) → readWord (wordsFrom 0 opCount) v ≡ Number o → o < opCount
+op-small v o e = omega (arith, word-read (wordsFrom 0 opCount) o v e .1, words-count 0 opCount (omega arith))
 
 -- where it is no operation's, no form goes on
 pub op-stops : (ps : List (List ℕ)) (v : Value) → OneOf (1 ∷ 2 ∷ []) (tagOf variants.the-type v) → named LP5523 v ps ≡ stoppedBy 21 v ps
 unfolding named stoppedBy
 op-stops ps = other-value (λ (v : Value). named LP5523 v ps ≡ stoppedBy 21 v ps) refl refl
 
-pub op-goes : (o : ℕ) (ps : List (List ℕ)) → o < 31 → named LP5523 (Number o) ps ≡ before (Number o) (readForm (formOf o) ps)
+pub op-goes : (o : ℕ) (ps : List (List ℕ)) → o < opCount → named LP5523 (Number o) ps ≡ before (Number o) (readForm (formOf o) ps)
 unfolding named
 op-goes o ps h = ap (λ (fs : List Pair). before (Number o) (readForm fs ps)) (op-form o h)

@@ -15,10 +15,10 @@ ghost use Prim.Native.Nat.{_<_};
 ghost use Rattle.text.specs.Number.{readNumber};
 ghost use Rattle.word.specs.Field.{inside, upto};
 ghost use Rattle.grammar.specs.Form.{held, readValue};
-ghost use Rattle.grammar.specs.Tables.{kindAt, rangesAt};
+ghost use Rattle.grammar.specs.Tables.{numberKinds, kindCount, kindAt, rangesAt};
 
 fn in_ranges(n: u16, kind: usize) -> bool
-    requires { ⌜ kind < 12 ⌝ }
+    requires { ⌜ kind < numberKinds ⌝ }
     ensures { λ r. ⌜ r ≡ inside (rangesAt kind) n ⌝ }
 {
     if LOW[kind] <= n {
@@ -54,7 +54,7 @@ fn refused(d: Decimal) -> Value
 }
 
 fn number_of(v: &[u8], kind: usize) -> Value
-    requires { ⌜ kind < 12 ⌝ }
+    requires { ⌜ kind < numberKinds ⌝ }
     ensures { λ r. ⌜ r ≡ held (rangesAt kind) (readNumber 65535 (now (v .entry))) ⌝ }
 {
     let value = read_number(v);
@@ -68,7 +68,7 @@ fn number_of(v: &[u8], kind: usize) -> Value
 }
 
 pub(super) fn read_value(v: &[u8], kind: usize) -> Value
-    requires { ⌜ kind < 16 ⌝ }
+    requires { ⌜ kind < kindCount ⌝ }
     ensures { λ r. ⌜ r ≡ readValue (kindAt kind) (now (v .entry)) ⌝ }
 {
     if kind < NUMBERS {

@@ -7,6 +7,7 @@ use super::shapes::stopped;
 use super::words::read_word;
 use grammar::Form;
 use grammar::LineRead;
+use grammar::OPS;
 use grammar::Value;
 ghost use mathlib.Core.Path.{_≡_};
 ghost use mathlib.Core.List.{[], _∷_};
@@ -17,8 +18,6 @@ ghost use Rattle.grammar.specs.Grammar.{number16, readOp, readLine};
 ghost use Rattle.grammar.specs.Tables.{lineReadOf};
 
 const SPACE: u8 = 32;
-
-const OPS: usize = 31;
 
 fn read_op(line: &[u8]) -> LineRead
     ensures { λ r. ⌜ r ≡ lineReadOf (readOp LP5523 (split space (now (line .entry)))) ⌝ }

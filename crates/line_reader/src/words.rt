@@ -6,11 +6,11 @@ ghost use mathlib.Core.Path.{_≡_};
 ghost use Prim.Native.Nat.{_+_, _≤_};
 ghost use lib.ListN.{take, drop};
 ghost use Rattle.grammar.specs.Form.{placeOf, readWord};
-ghost use Rattle.grammar.specs.Tables.{names};
+ghost use Rattle.grammar.specs.Tables.{nameCount, names};
 
 // The place of v among `count` names from `first` on. The tables are made once, before the loop.
 fn place_of(v: &[u8], first: usize, count: usize) -> Value
-    requires { ⌜ first + count ≤ 64 ⌝ }
+    requires { ⌜ first + count ≤ nameCount ⌝ }
     ensures { λ r. ⌜ r ≡ placeOf (take count (drop first names)) 0 (now (v .entry)) ⌝ }
 {
     let names = NAMES;
@@ -28,7 +28,7 @@ fn place_of(v: &[u8], first: usize, count: usize) -> Value
 }
 
 pub(super) fn read_word(v: &[u8], first: usize, count: usize) -> Value
-    requires { ⌜ first + count ≤ 64 ⌝ }
+    requires { ⌜ first + count ≤ nameCount ⌝ }
     ensures { λ r. ⌜ r ≡ readWord (take count (drop first names)) (now (v .entry)) ⌝ }
 {
     if text_bytes::is_word(v) {

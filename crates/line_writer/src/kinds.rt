@@ -6,10 +6,10 @@ use grammar::WORD_FIRST;
 ghost use Prim.Native.Nat.{_<_};
 ghost use Rattle.text.specs.Put.{Put};
 ghost use Rattle.grammar.specs.Form.{writeValue};
-ghost use Rattle.grammar.specs.Tables.{kindAt};
+ghost use Rattle.grammar.specs.Tables.{kindCount, kindAt};
 
 pub(super) fn put_value(out: &mut [u8], at: usize, kind: usize, n: u16) -> usize
-    requires { ⌜ kind < 16 ⌝ }
+    requires { ⌜ kind < kindCount ⌝ }
     ensures { λ r. ⌜ Put (now (out .entry)) (now (out .exit)) (writeValue (kindAt kind) n) at r ⌝ }
 {
     if kind < NUMBERS {

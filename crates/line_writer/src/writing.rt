@@ -5,6 +5,7 @@ use super::sequence::value_at;
 use grammar::DECISION;
 use grammar::FORM_AT;
 use grammar::Form;
+use grammar::OPS;
 use grammar::PAIR_KEY;
 use grammar::PAIR_KIND;
 use grammar::Values;
@@ -17,16 +18,14 @@ ghost use Rattle.word.specs.Profile.{LP5523};
 ghost use Rattle.grammar.specs.declared.Value.the-variants.{Number};
 ghost use Rattle.grammar.specs.Form.{writePair, writeForm};
 ghost use Rattle.grammar.specs.Grammar.{number16, writeOp, writeLine};
-ghost use Rattle.grammar.specs.Tables.{pairs, pairAt, formOf, stopsAt, listOf};
+ghost use Rattle.grammar.specs.Tables.{opCount, pairCount, formCount, pairs, pairAt, formOf, stopsAt, listOf};
 
 const SPACE: u8 = 32;
 
 const EQUALS_SIGN: u8 = 61;
 
-const OPS: u16 = 31;
-
 fn put_pair(out: &mut [u8], at: usize, pair: usize, n: u16) -> usize
-    requires { ⌜ pair < 71 ⌝ }
+    requires { ⌜ pair < pairCount ⌝ }
     ensures { λ r. ⌜ Put (now (out .entry)) (now (out .exit)) (writePair (pairAt pair) n) at r ⌝ }
 {
     let key = put_name(out, at, PAIR_KEY[pair] as usize);
@@ -36,7 +35,7 @@ fn put_pair(out: &mut [u8], at: usize, pair: usize, n: u16) -> usize
 
 // Whether the pairs after this one are left out: after a no.
 fn stops(pair: usize, n: u16) -> bool
-    requires { ⌜ pair < 71 ⌝ }
+    requires { ⌜ pair < pairCount ⌝ }
     ensures { λ r. ⌜ r ≡ stopsAt (pairAt pair .kind) (Number n) ⌝ }
 {
     if PAIR_KIND[pair] != DECISION {
@@ -47,7 +46,7 @@ fn stops(pair: usize, n: u16) -> bool
 
 // The pairs up to `end`, a space before each, with the values after the first.
 fn put_pairs(out: &mut [u8], at: usize, first: usize, end: usize, v: Values) -> usize
-    requires { ⌜ (end ≤ 71) × (end ≤ first + 6) ⌝ }
+    requires { ⌜ (end ≤ pairCount) × (end ≤ first + 6) ⌝ }
     ensures { λ r. ⌜ Put (now (out .entry)) (now (out .exit)) (joined space (writeForm (take (end - first) (drop first pairs)) (drop 1 (listOf v)))) at r ⌝ }
 {
     let mut pair = first;
@@ -70,16 +69,16 @@ fn put_op(out: &mut [u8], at: usize, v: Values) -> usize
     ensures { λ r. ⌜ Put (now (out .entry)) (now (out .exit)) (join space (writeOp LP5523 (listOf v))) at r ⌝ }
 {
     let key = text_bytes::put_bytes(out, at, b"op=");
-    if v.a >= OPS {
+    let op = v.a as usize;
+    if op >= OPS {
         return key;
     }
-    let op = v.a as usize;
     let name = put_name(out, key, op);
     put_pairs(out, name, FORM_AT[op] as usize, FORM_AT[op + 1] as usize, v)
 }
 
 fn put_form(out: &mut [u8], at: usize, form: usize, v: Values) -> usize
-    requires { ⌜ (31 ≤ form) × (form < 34) ⌝ }
+    requires { ⌜ (opCount ≤ form) × (form < formCount) ⌝ }
     ensures { λ r. ⌜ Put (now (out .entry)) (now (out .exit)) (join space (writeForm (formOf form) (listOf v))) at r ⌝ }
 {
     let pair = FORM_AT[form] as usize;

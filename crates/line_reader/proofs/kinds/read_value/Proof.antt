@@ -2,6 +2,7 @@
 use Prim.Native.Nat.{ℕ, _-_, _≤_, _<_}
 use mathlib.Core.Path.{sym, _∙_}
 use native.Mathlib.Omega.{arith}
+use Rattle.grammar.specs.Tables.{numberKinds, kindCount}
 use Rattle.grammar.proofs.Tables.{wordFirst, wordCount, words-within, first-fits, count-fits}
 use Rattle.grammar.proofs.Ranges.{number-value, word-value}
 use Rattle.line_reader.proofs.kinds.read_value.Statement.{statement}
@@ -13,10 +14,10 @@ returns c =
     c .number-of .ensures ∙ sym (number-value (a .kind) (a .v .now) (c .before .if1 .taken))
 
 -- a kind that is none of numbers has its words in the tables
-listed : {k : ℕ} → k < 16 → 12 ≤ k → k - 12 < 4
+listed : {k : ℕ} → k < kindCount → numberKinds ≤ k → k - numberKinds < 4
 listed h l = omega arith
 
-at : (c : tie.Else1) → c .before .before .args .kind - 12 < 4
+at : (c : tie.Else1) → c .before .before .args .kind - numberKinds < 4
 at c = listed (c .before .before .pre) (c .if1 .left)
 
 cast-read-word : tie.Need-cast-read-word

@@ -9,7 +9,7 @@ use Rattle.grammar.specs.declared.Form.{Form}
 use Rattle.grammar.specs.declared.LineRead.{LineRead}
 use Rattle.grammar.specs.Form.{Pair, readForm}
 use Rattle.grammar.specs.Grammar.{wordForm, readParts, readLine}
-use Rattle.grammar.specs.Tables.{formOf, partsFrom, lineReadOf}
+use Rattle.grammar.specs.Tables.{opCount, formOf, partsFrom, lineReadOf}
 use Rattle.grammar.proofs.Tables.{plan-forms}
 use Rattle.line_reader.proofs.Walk.{parts-all}
 use Rattle.line_reader.proofs.reading.read_line.Statement.{statement}
@@ -45,7 +45,7 @@ read-line-spec =
     (λ c. arm (c .before .before .before .before .args .line .now) (c .before .enum-told .given .1) (c .read-op .ensures))
     (λ c.
     let line = c .before .before .before .before .args .line .now in
-    arm line (c .before .enum-told2 .given .1) (c .read-form .ensures ∙ plan 31 line (plan-forms .0)))
+    arm line (c .before .enum-told2 .given .1) (c .read-form .ensures ∙ plan opCount line (plan-forms .0)))
     (λ c.
     let line = c .before .before .before .before .args .line .now in
     arm line (c .before .enum-told3 .given .1) (c .read-form2 .ensures ∙ plan 32 line (plan-forms .1)))

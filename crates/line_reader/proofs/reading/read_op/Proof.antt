@@ -10,14 +10,14 @@ use Rattle.grammar.specs.declared.Value.{Value}
 use Rattle.grammar.specs.declared.Value.the-variants.{Number}
 use Rattle.grammar.specs.Form.{readWord}
 use Rattle.grammar.specs.Grammar.{readOp, named}
-use Rattle.grammar.specs.Tables.{partsFrom, lineReadOf, beforeRead}
+use Rattle.grammar.specs.Tables.{opCount, partsFrom, lineReadOf, beforeRead}
 use Rattle.line_reader.proofs.Walk.{wordsFrom, read-before, op-line, op-small, op-stops, op-goes}
 use Rattle.line_reader.proofs.reading.read_op.Statement.{statement}
 use Rattle.line_reader.proofs.reading.read_op.Tie as tie
 
 -- the word that was read is that of the line's first part
-word-is : (c : tie.After-read-word) → c .read-word .result ≡ readWord (wordsFrom 0 31) (valueOf (ascii "op") (c .before .before .before .part-at .result .now))
-word-is c = c .read-word .ensures ∙ ap (readWord (wordsFrom 0 31)) (c .before .value-of .ensures)
+word-is : (c : tie.After-read-word) → c .read-word .result ≡ readWord (wordsFrom 0 opCount) (valueOf (ascii "op") (c .before .before .before .part-at .result .now))
+word-is c = c .read-word .ensures ∙ ap (readWord (wordsFrom 0 opCount)) (c .before .value-of .ensures)
 
 -- what the line is, by that word
 line-is : (c : tie.After-read-word) (v : Value) → c .read-word .result ≡ v →
@@ -28,7 +28,7 @@ line-is c v e =
     let p = c .before .before .before in
     op-line (p .before .before .args .line .now) (p .part-at .result .now) v (p .part-at .ensures) (sym e ∙ word-is c)
 
-small : (c : tie.After-op) → c .op .given .0 .0 < 31
+small : (c : tie.After-op) → c .op .given .0 .0 < opCount
 small c = op-small _ (c .op .given .0 .0) (sym (word-is (c .before .before)) ∙ c .op .given .1)
 
 returns : tie.Need-returns

@@ -9,7 +9,7 @@ use lib.ListN.{getD, drop}
 use mir.Syntax.{w64}
 use Rattle.text.specs.Bytes.{same}
 use Rattle.grammar.specs.Form.{placeOf}
-use Rattle.grammar.specs.Tables.{names}
+use Rattle.grammar.specs.Tables.{nameCount, names}
 use Rattle.grammar.proofs.Tables.{in-table, next-in-table, scaled, nameBytes, nameAt, name-starts, name-ends, name-fits, name-is}
 use Rattle.line_reader.proofs.Walk.{wordsFrom, place-step, place-end}
 use Rattle.line_reader.proofs.words.place_of.Statement.{statement}
@@ -25,7 +25,7 @@ abbrev μ-loop : tie.MeasureT-loop
 abbrev place : tie.In-loop Inv-loop μ-loop → ℕ
 place c = c .before .before .before .args .first + c .before .loop .i
 
-place-is : (c : tie.In-loop Inv-loop μ-loop) → place c < 64
+place-is : (c : tie.In-loop Inv-loop μ-loop) → place c < nameCount
 place-is c =
     let s = c .before .before .before in
     omega (arith, s .pre)
@@ -87,12 +87,12 @@ place-of-spec =
     Inv-loop
     μ-loop
     (λ c. (omega arith, refl))
-    (λ c. fits-under w64 _ 64 (place-is c) tt)
+    (λ c. fits-under w64 _ nameCount (place-is c) tt)
     (λ c. scaled _ (in-table (place-is c) tt))
     (λ c. in-table (place-is c) tt)
     cast-a
-    (λ c. fits-under w64 _ 64 (place-is c) tt)
-    (λ c. fits-under w64 _ 65 (next-in-table _ (place-is c) tt) tt)
+    (λ c. fits-under w64 _ nameCount (place-is c) tt)
+    (λ c. fits-under w64 _ (nameCount + 1) (next-in-table _ (place-is c) tt) tt)
     (λ c. scaled _ (next-in-table _ (place-is c) tt))
     (λ c. next-in-table _ (place-is c) tt)
     cast-e

@@ -6,26 +6,27 @@ use borrow.Author.Needs.{needs, fits-under}
 use lib.ListN.{getD}
 use mir.Syntax.{w64}
 use Rattle.text.proofs.Puts.{put-nil, put-is}
+use Rattle.grammar.specs.Tables.{nameCount, numberKinds, kindCount}
 use Rattle.grammar.proofs.Tables.{wordFirst, wordCount, words-within, first-fits, count-fits}
 use Rattle.line_writer.proofs.Written.{number-text, word-name, word-none}
 use Rattle.line_writer.proofs.kinds.put_value.Statement.{statement}
 use Rattle.line_writer.proofs.kinds.put_value.Tie as tie
 
 -- a kind that is none of numbers has its words in the tables
-listed : {k : ℕ} → k < 16 → 12 ≤ k → k - 12 < 4
+listed : {k : ℕ} → k < kindCount → numberKinds ≤ k → k - numberKinds < 4
 listed h l = omega arith
 
-named : (a b n : ℕ) → a + b ≤ 64 → n < b → a + n < 64
+named : (a b n : ℕ) → a + b ≤ nameCount → n < b → a + n < nameCount
 named a b n h l = omega arith
 
 -- where a name is written: its kind's place in the tables, and that it is among the names
 abbrev at-start : tie.After-put-name-arg → tie.Start
 at-start c = c .before .before .before .before
 
-at : (c : tie.After-put-name-arg) → at-start c .args .kind - 12 < 4
+at : (c : tie.After-put-name-arg) → at-start c .args .kind - numberKinds < 4
 at c = listed (at-start c .pre) (c .before .before .if1 .left)
 
-among : (c : tie.After-put-name-arg) → getD wordFirst (at-start c .args .kind - 12) 0 + at-start c .args .n < 64
+among : (c : tie.After-put-name-arg) → getD wordFirst (at-start c .args .kind - numberKinds) 0 + at-start c .args .n < nameCount
 unfolding wordFirst wordCount
 among c = named _ _ _ (words-within _ (at c)) (c .before .if2 .taken)
 
@@ -56,7 +57,7 @@ put-value-spec =
     (λ c. count-fits _ (listed (c .before .before .pre) (c .if1 .left)))
     at
     (λ c. first-fits _ (at c))
-    (λ c. fits-under w64 _ 64 (among c) tt)
+    (λ c. fits-under w64 _ nameCount (among c) tt)
     (λ c κs. among c)
     (search needs)
     returns-2

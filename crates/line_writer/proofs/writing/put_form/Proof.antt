@@ -6,7 +6,7 @@ use borrow.Author.Needs.{needs, fits-under}
 use mir.Syntax.{w64}
 use mir.Val.{Fits}
 use Rattle.text.proofs.Puts.{put-append, put-is}
-use Rattle.grammar.specs.Tables.{listOf}
+use Rattle.grammar.specs.Tables.{pairCount, formCount, listOf}
 use Rattle.grammar.proofs.Tables.{in-table, next-in-table, formAt, form-fits, form-ends, form-sizes, plan-starts}
 use Rattle.line_writer.proofs.Written.{plan-line}
 use Rattle.line_writer.proofs.writing.put_form.Statement.{statement}
@@ -19,7 +19,7 @@ within h l = omega arith
 after : (n k : ℕ) → k ≤ n + 7 → k ≤ n + 1 + 6
 after n k h = omega arith
 
-next-fits : (n : ℕ) → n ≤ 71 → Fits w64 (n + 1)
+next-fits : (n : ℕ) → n ≤ pairCount → Fits w64 (n + 1)
 next-fits n h = omega arith
 
 cast-pair : tie.Need-cast-pair
@@ -66,7 +66,7 @@ put-form-spec =
     cast-pair
     put-pair-requires
     add-put-pairs
-    (λ c. fits-under w64 _ 35 (next-in-table _ (c .before .before .before .before .before .before .pre .1) tt) tt)
+    (λ c. fits-under w64 _ (formCount + 1) (next-in-table _ (c .before .before .before .before .before .before .pre .1) tt) tt)
     (λ c. next-in-table _ (c .before .before .before .before .before .before .pre .1) tt)
     cast-put-pairs
     put-pairs-requires
