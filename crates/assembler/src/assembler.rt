@@ -9,6 +9,8 @@ use grammar::Form;
 use plan::Plan;
 use plan::Verdict;
 use sheet_places::form_at;
+use text::LINE_FEED;
+use word::WORDS;
 ghost use mathlib.Core.List.{List, []};
 ghost use mathlib.Core.Path.{_≡_};
 ghost use Prim.Native.Nat.{ℕ, _≤_};
@@ -21,10 +23,6 @@ ghost use Rattle.assembler.specs.declared.PlanLine.the-variants.{Refused
 ghost use Rattle.asm.specs.Answers.{readingOf};
 ghost use Rattle.asm.specs.Reading.{ranged, readWords, readSheet, assembleOf, imageAfter};
 ghost use Rattle.assembler.specs.Walks.{linesFrom};
-
-const WORDS: usize = 96;
-
-const LINE_FEED: u8 = 10;
 
 // 11 and 12.
 fn judged(plan: Plan) -> Assembled

@@ -6,6 +6,7 @@ use grammar::Form;
 use grammar::LineRead;
 use grammar::Values;
 use plan::EnginePlan;
+use text::LINE_FEED;
 use word::Address;
 ghost use mathlib.Core.List.{List, _∷_};
 ghost use mathlib.Core.Path.{_≡_};
@@ -18,8 +19,6 @@ ghost use Rattle.grammar.specs.Tables.{listOf};
 ghost use Rattle.asm.specs.PlanLines.{enginePlanOf};
 ghost use Rattle.asm.specs.Reading.{readPlans};
 ghost use Rattle.assembler.specs.Walks.{linesFrom, thenPlans, Within};
-
-const LINE_FEED: u8 = 10;
 
 // An engine's plan, from the values of its plan line.
 pub fn engine_plan(v: Values) -> EnginePlan

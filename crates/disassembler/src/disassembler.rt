@@ -6,13 +6,12 @@ use asm::Disassembled;
 use grammar::Form;
 use plan::Plan;
 use plan::Verdict;
+use word::WORDS;
 ghost use mathlib.Core.Path.{_≡_};
 ghost use lib.ListN.{length};
 ghost use Rattle.text.specs.Put.{Put};
 ghost use Rattle.word.specs.Profile.{LP5523};
 ghost use Rattle.asm.specs.Writing.{sheetOf, writableOf, disassembleOf, bytesAfter};
-
-const WORDS: usize = 96;
 
 // What can be said against writing a plan and its image: 9, 11, 12, 13.
 fn check_writable(plan: Plan, image: &[u16]) -> Verdict

@@ -2,6 +2,7 @@
 use grammar::Form;
 use grammar::Values;
 use plan::EnginePlan;
+use text::LINE_FEED;
 ghost use mathlib.Core.List.{_∷_, [], _++_};
 ghost use mathlib.Core.Path.{_≡_};
 ghost use Prim.Native.Nat.{_+_};
@@ -14,8 +15,6 @@ ghost use Rattle.grammar.specs.Grammar.{writeLine};
 ghost use Rattle.grammar.specs.Tables.{valuesOf};
 ghost use Rattle.asm.specs.PlanLines.{planValues};
 ghost use Rattle.disassembler.specs.Walks.{IsPlanLine};
-
-const LINE_FEED: u8 = 10;
 
 fn seven(a: u16, b: u16, c: u16, d: u16, e: u16, f: u16, g: u16) -> Values
     ensures { λ r. ⌜ r ≡ valuesOf (a ∷ b ∷ c ∷ d ∷ e ∷ f ∷ g ∷ []) ⌝ }

@@ -3,6 +3,7 @@ use grammar::Form;
 use grammar::Values;
 use plan::Plan;
 use sheet_places::form_at;
+use text::LINE_FEED;
 ghost use mathlib.Core.List.{_∷_, [], _++_};
 ghost use mathlib.Core.Path.{_≡_};
 ghost use lib.ListN.{length};
@@ -11,8 +12,6 @@ ghost use Rattle.text.specs.Put.{Put};
 ghost use Rattle.word.specs.Profile.{LP5523};
 ghost use Rattle.asm.specs.Writing.{wordLine, wordLines, ended};
 ghost use Rattle.disassembler.specs.Walks.{IsWordLine};
-
-const LINE_FEED: u8 = 10;
 
 // Writes a word's line with its LF.
 fn put_word(out: &mut [u8], at: usize, form: Form, code: u16) -> usize

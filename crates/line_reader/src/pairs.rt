@@ -10,13 +10,12 @@ use grammar::LineRead;
 use grammar::PAIR_KEY;
 use grammar::PAIR_KIND;
 use grammar::Value;
+use text::SPACE;
 ghost use mathlib.Core.Path.{_≡_};
 ghost use Prim.Native.Nat.{_-_, _≤_, _<_};
 ghost use lib.ListN.{take, drop};
 ghost use Rattle.grammar.specs.Form.{readPair, readForm};
 ghost use Rattle.grammar.specs.Tables.{pairCount, formCount, pairs, pairAt, formOf, partsFrom, lineReadOf, stopsAt};
-
-const SPACE: u8 = 32;
 
 fn read_pair(part: &[u8], pair: usize) -> Value
     requires { ⌜ pair < pairCount ⌝ }

@@ -9,6 +9,7 @@ use grammar::Form;
 use grammar::LineRead;
 use grammar::OPS;
 use grammar::Value;
+use text::SPACE;
 ghost use mathlib.Core.Path.{_≡_};
 ghost use mathlib.Core.List.{[], _∷_};
 ghost use Rattle.text.specs.Bytes.{space, split};
@@ -16,8 +17,6 @@ ghost use Rattle.word.specs.Profile.{LP5523};
 ghost use Rattle.grammar.specs.Form.{readForm};
 ghost use Rattle.grammar.specs.Grammar.{number16, readOp, readLine};
 ghost use Rattle.grammar.specs.Tables.{lineReadOf};
-
-const SPACE: u8 = 32;
 
 fn read_op(line: &[u8]) -> LineRead
     ensures { λ r. ⌜ r ≡ lineReadOf (readOp LP5523 (split space (now (line .entry)))) ⌝ }

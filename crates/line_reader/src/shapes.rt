@@ -3,11 +3,10 @@ use super::sequence::before;
 use grammar::LineRead;
 use grammar::Value;
 use grammar::Values;
+use text::SPACE;
 ghost use mathlib.Core.Path.{_≡_};
 ghost use Rattle.grammar.specs.Form.{allPairs, unknown, atEnd};
 ghost use Rattle.grammar.specs.Tables.{partsFrom, lineReadOf, stoppedBy};
-
-const SPACE: u8 = 32;
 
 // Whether every part from `from` on is a pair.
 fn all_pairs(line: &[u8], from: usize) -> bool

@@ -9,6 +9,8 @@ use grammar::OPS;
 use grammar::PAIR_KEY;
 use grammar::PAIR_KIND;
 use grammar::Values;
+use text::EQUALS_SIGN;
+use text::SPACE;
 ghost use mathlib.Core.Path.{_≡_};
 ghost use Prim.Native.Nat.{_+_, _-_, _≤_, _<_};
 ghost use lib.ListN.{take, drop};
@@ -19,10 +21,6 @@ ghost use Rattle.grammar.specs.declared.Value.the-variants.{Number};
 ghost use Rattle.grammar.specs.Form.{writePair, writeForm};
 ghost use Rattle.grammar.specs.Grammar.{number16, writeOp, writeLine};
 ghost use Rattle.grammar.specs.Tables.{opCount, pairCount, formCount, pairs, pairAt, formOf, stopsAt, listOf};
-
-const SPACE: u8 = 32;
-
-const EQUALS_SIGN: u8 = 61;
 
 fn put_pair(out: &mut [u8], at: usize, pair: usize, n: u16) -> usize
     requires { ⌜ pair < pairCount ⌝ }

@@ -1,9 +1,8 @@
 // Words, and key=value pairs.
 use crate::pieces::part_at;
+use text::EQUALS_SIGN;
 ghost use mathlib.Core.Path.{_≡_};
 ghost use Rattle.text.specs.Bytes.{isWord, isPair};
-
-const EQUALS_SIGN: u8 = 61;
 
 // Whether a value has a byte, and no equals sign.
 pub fn is_word(v: &[u8]) -> bool
