@@ -5,10 +5,9 @@ use super::words::read_word;
 use crate::PlanLine;
 use crate::WordRead;
 use asm::Assembled;
-use grammar::Form;
 use plan::Plan;
 use plan::Verdict;
-use sheet_places::form_at;
+use sheet_places::line_kind_at;
 use text::LINE_FEED;
 use word::WORDS;
 ghost use mathlib.Core.List.{List, []};
@@ -49,7 +48,7 @@ fn read_words(text: &[u8], from: usize, plan: Plan, words: &mut [u16]) -> Assemb
         if end >= text.len() {
             return unended(line, number);
         }
-        match read_word(line, form_at(plan, k as u16), number) {
+        match read_word(line, line_kind_at(plan, k as u16), number) {
             WordRead::Word(w) => words[k] = w,
             WordRead::Refused(r) => return r,
         }
@@ -76,7 +75,7 @@ fn read_sheet(text: &[u8], words: &mut [u16]) -> Assembled
     requires { ⌜ length (now words) ≡ 96 ⌝ }
     ensures { λ r. ⌜ readingOf r (now (words .exit)) ≡ readSheet LP5523 (now (text .entry)) ⌝ }
 {
-    let line1 = read_plan(text, 0, Form::Engine1, 1);
+    let line1 = read_plan(text, 0, 1);
     let PlanLine::Plan {
         plan: engine1,
         next: at1,
@@ -84,7 +83,7 @@ fn read_sheet(text: &[u8], words: &mut [u16]) -> Assembled
     else {
         return plan_refusal(line1);
     };
-    let line2 = read_plan(text, at1, Form::Engine2, 2);
+    let line2 = read_plan(text, at1, 2);
     let PlanLine::Plan {
         plan: engine2,
         next: at2,
@@ -92,7 +91,7 @@ fn read_sheet(text: &[u8], words: &mut [u16]) -> Assembled
     else {
         return plan_refusal(line2);
     };
-    let line3 = read_plan(text, at2, Form::Engine3, 3);
+    let line3 = read_plan(text, at2, 3);
     let PlanLine::Plan {
         plan: engine3,
         next: at3,

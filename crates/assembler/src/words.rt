@@ -2,7 +2,7 @@
 use super::refusals::refusal_at;
 use crate::WordRead;
 use asm::Assembled;
-use grammar::Form;
+use grammar::LineKind;
 use grammar::LineRead;
 use op_lines::WordLine;
 ghost use mathlib.Core.List.{List};
@@ -25,21 +25,21 @@ fn op_word(line: &[u8], number: u16) -> WordRead
     }
 }
 
-fn plain_word(line: &[u8], form: Form, number: u16) -> WordRead
-    ensures { λ r. ⌜ ((f : ℕ → Sheet) (ws : List ℕ) → thenWord r f ws ≡ withWord (plainWord (readLine LP5523 form (now (line .entry)))) number f) ⌝ }
+fn plain_word(line: &[u8], kind: LineKind, number: u16) -> WordRead
+    ensures { λ r. ⌜ ((f : ℕ → Sheet) (ws : List ℕ) → thenWord r f ws ≡ withWord (plainWord (readLine LP5523 kind (now (line .entry)))) number f) ⌝ }
 {
-    match line_reader::read_line(line, form) {
+    match line_reader::read_line(line, kind) {
         LineRead::Read(v) => WordRead::Word(v.a),
         LineRead::Refused(k) => WordRead::Refused(refusal_at(k, number)),
     }
 }
 
-// The word of a line of a form, with its number in the sheet.
-pub(super) fn read_word(line: &[u8], form: Form, number: u16) -> WordRead
-    ensures { λ r. ⌜ ((f : ℕ → Sheet) (ws : List ℕ) → thenWord r f ws ≡ withWord (readWordLine LP5523 form (now (line .entry))) number f) ⌝ }
+// The word of a line of a kind, with its number in the sheet.
+pub(super) fn read_word(line: &[u8], kind: LineKind, number: u16) -> WordRead
+    ensures { λ r. ⌜ ((f : ℕ → Sheet) (ws : List ℕ) → thenWord r f ws ≡ withWord (readWordLine LP5523 kind (now (line .entry))) number f) ⌝ }
 {
-    if let Form::Op = form {
+    if let LineKind::Op = kind {
         return op_word(line, number);
     }
-    plain_word(line, form, number)
+    plain_word(line, kind, number)
 }

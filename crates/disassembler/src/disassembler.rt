@@ -3,7 +3,6 @@ use super::plans::put_plan;
 use super::undefined::check_defined;
 use super::words::put_words;
 use asm::Disassembled;
-use grammar::Form;
 use plan::Plan;
 use plan::Verdict;
 use word::WORDS;
@@ -34,9 +33,9 @@ fn put_sheet(out: &mut [u8], plan: Plan, image: &[u16]) -> usize
     let q1 = plan.engine1;
     let q2 = plan.engine2;
     let q3 = plan.engine3;
-    let at2 = put_plan(out, 0, Form::Engine1, 1, q1);
-    let at3 = put_plan(out, at2, Form::Engine2, 2, q2);
-    let words = put_plan(out, at3, Form::Engine3, 3, q3);
+    let at2 = put_plan(out, 0, 1, q1);
+    let at3 = put_plan(out, at2, 2, q2);
+    let words = put_plan(out, at3, 3, q3);
     put_words(out, words, plan, image)
 }
 

@@ -4,17 +4,18 @@ use mathlib.Core.Bool.{Bool, true, false, cond, and-eq-true-iff, false≢true}
 use mathlib.Core.List.{List, [], _∷_}
 use mathlib.Core.Logic.{Iff·rfl, _⊎_}
 use mathlib.Core.Path.{_≡_, refl}
+use borrow.Author.Tests.{le-leb}
 use Rattle.text.specs.Bytes.{ascii, same, valueOf, isWord}
 use Rattle.text.specs.Number.{numberOf, isNumber}
 use Rattle.word.specs.Profile.{Profile}
 use Rattle.word.specs.Field.{inside}
 use Rattle.grammar.specs.declared.Value.{Value}
 use Rattle.grammar.specs.declared.Value.the-variants.{Number, Malformed, Outside}
-use Rattle.grammar.specs.declared.Form.{Form}
-use Rattle.grammar.specs.declared.Form.the-variants.{Op, Engine1, Engine2, Engine3, Row, Spare}
+use Rattle.grammar.specs.declared.LineKind.{LineKind}
+use Rattle.grammar.specs.declared.LineKind.the-variants.{Op, Plan, Row, Spare}
 use Rattle.grammar.specs.Form.{Kind, number, word, decision, Pair, Reading, placeOf, readWord, readValue, readPair, followed, readForm}
 use Rattle.grammar.specs.Grammar.{opLines, planForm, opNames, opForm, wordForm, named, readOp, readParts}
-use Rattle.grammar.specs.Conditions.{among, shaped, Onward, WellFormed, fitting, goesOn, SomeOutside, Named, form, none, AfterName, IsUnknown, OutsideAfter, OpWellFormed, OpUnknown, OpOutside, LineWellFormed, LineUnknown, LineOutside}
+use Rattle.grammar.specs.Conditions.{among, shaped, Onward, WellFormed, fitting, goesOn, SomeOutside, Named, form, none, AfterName, IsUnknown, OutsideAfter, OpWellFormed, OpUnknown, OpOutside, LineWellFormed, LineUnknown, LineOutside, Has16Bits}
 use Rattle.grammar.proofs.Judged.{Judged, refuses20, refuses21, in-words, besides, end-judged, unknown-judged, number-before, before-judged, decided-judged}
 use Rattle.grammar.proofs.Low.{lowKind, lowForm, number-is, low-op, low-plan, low-word}
 use Rattle.grammar.proofs.Spots.{spot, word-is, form-named}
@@ -59,11 +60,10 @@ op-judged P (p ∷ ps) =
 
 -- ---- every line
 
-pub line-judged : (P : Profile) (f : Form) (ps : List (List ℕ)) → Judged (LineWellFormed P f ps) (LineUnknown P f ps) (LineOutside P f ps) (readParts P f ps)
+pub line-judged : (P : Profile) (k : LineKind) (ps : List (List ℕ)) → Has16Bits k
+    → Judged (LineWellFormed P k ps) (LineUnknown P k ps) (LineOutside P k ps) (readParts P k ps)
 unfolding readParts
-line-judged P Op ps = op-judged P ps
-line-judged P Engine1 ps = form-judged (planForm P 1) ps (low-plan P 1 refl)
-line-judged P Engine2 ps = form-judged (planForm P 2) ps (low-plan P 2 refl)
-line-judged P Engine3 ps = form-judged (planForm P 3) ps (low-plan P 3 refl)
-line-judged P Row ps = form-judged (wordForm "row") ps (low-word "row")
-line-judged P Spare ps = form-judged (wordForm "spare") ps (low-word "spare")
+line-judged P Op ps h = op-judged P ps
+line-judged P (Plan i) ps h = form-judged (planForm P i) ps (low-plan P i (le-leb i 65535 h))
+line-judged P Row ps h = form-judged (wordForm "row") ps (low-word "row")
+line-judged P Spare ps h = form-judged (wordForm "spare") ps (low-word "spare")

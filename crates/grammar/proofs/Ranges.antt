@@ -100,12 +100,12 @@ other-value P m o Malformed h = m
 other-value P m o Outside h = o
 
 -- a value held to narrower ranges
-abbrev pub narrowed : List Range → Value → Value
+abbrev narrowed : List Range → Value → Value
 narrowed rs (Number n) = cond (inside rs n) (Number n) Outside
 narrowed rs Malformed = Malformed
 narrowed rs Outside = Outside
 
-pub held-narrowed : (rs : List Range) (v : List ℕ) → narrowed rs (held (upto 65535) (readNumber 65535 v)) ≡ held rs (readNumber 65535 v)
+held-narrowed : (rs : List Range) (v : List ℕ) → narrowed rs (held (upto 65535) (readNumber 65535 v)) ≡ held rs (readNumber 65535 v)
 unfolding held
 held-narrowed rs v = go (readNumber 65535 v) refl
   where
@@ -113,6 +113,30 @@ held-narrowed rs v = go (readNumber 65535 v) refl
     go (decimal.Number n) e = ap (narrowed rs) (held-16 n (read-parts 65535 n v e .2))
     go decimal.Malformed e = refl
     go decimal.Outside e = refl
+
+-- a number of 16 bits, narrowed to ranges: v is what was read of it
+module _ (rs : List Range) (s : List ℕ) {v : Value} (is : v ≡ held (upto 65535) (readNumber 65535 s)) where
+  pub narrow-number : {n : ℕ} → v ≡ Number n → (t : Bool) → inside rs n ≡ t → cond t (Number n) Outside ≡ held rs (readNumber 65535 s)
+  narrow-number {n} e t h =
+      ap (λ (b : Bool). cond b (Number n) Outside) (sym h) ∙ ap (narrowed rs) (sym e ∙ is) ∙ held-narrowed rs s
+
+  pub narrow-other : OneOf (1 ∷ 2 ∷ []) (tagOf values.the-type v) → v ≡ held rs (readNumber 65535 s)
+  narrow-other h = other-value (λ (w : Value). w ≡ narrowed rs w) refl refl v h ∙ ap (narrowed rs) is ∙ held-narrowed rs s
+
+-- a range of one number
+pub in-one : (i : ℕ) → inside (i to i ∷ []) i ≡ true
+unfolding inside
+in-one i = rw (le-leb i i (omega arith))
+
+pub out-one : (i n : ℕ) → (n ≡ i → ⊥) → inside (i to i ∷ []) n ≡ false
+unfolding inside
+out-one i n h = go (ltb n i) refl
+  where
+    go : (t : Bool) → ltb n i ≡ t → inside (i to i ∷ []) n ≡ false
+    go true q = rw (lt-leb i n (ltb-true n i q))
+    go false q =
+        let l = ltb-false n i q in
+        rw (le-leb i n l, lt-leb n i (omega arith))
 
 -- ---- values by their kinds
 

@@ -14,32 +14,32 @@ use Rattle.text.specs.Bytes.{ascii}
 use Rattle.word.specs.Field.{Range, _to_}
 use Rattle.word.specs.Profile.{LP5523}
 use Rattle.grammar.specs.Form.{Kind, number, word, decision, answers, Pair}
-use Rattle.grammar.specs.Grammar.{OpLine, opLines, opNames, opForm, planForm}
+use Rattle.grammar.specs.Grammar.{OpLine, opLines, opNames, opForm, planPairs}
 use Rattle.grammar.specs.Tables.{opCount, nameCount, byteCount, numberKinds, kindCount, decisionKind, pairCount, formCount, keys, names, kinds, kindAt, forms, formOf, pairs, pairAt}
 
 -- NAMES
 unfoldable pub nameBytes : List ℕ
-nameBytes = ascii "rstrampwaitsetramp-varset-varbranch-varjnejljgejeldaddsubadd-varsub-varmux-map-startmux-ld-endmux-ld-startmux-ld-addrmux-map-addrmux-clrmux-selmux-map-nextmux-ld-nextmux-map-prevmux-ld-prevbranchendinttriggerupdownABCDyesnoprescaletimedircountvaluefromloopsstepskipleftrighttoaddressoutputintresetwaitsendengineusefirstlasttabletopbottom"
+nameBytes = ascii "rstrampwaitsetramp-varset-varbranch-varjnejljgejeldaddsubadd-varsub-varmux-map-startmux-ld-endmux-ld-startmux-ld-addrmux-map-addrmux-clrmux-selmux-map-nextmux-ld-nextmux-map-prevmux-ld-prevbranchendinttriggerupdownABCDyesnoprescaletimedircountvaluefromloopsstepskipleftrighttoaddressoutputintresetwaitsendusefirstlasttabletopbottom"
 
 -- NAME_AT
 unfoldable pub nameAt : List ℕ
-nameAt = 0 ∷ 3 ∷ 7 ∷ 11 ∷ 14 ∷ 22 ∷ 29 ∷ 39 ∷ 42 ∷ 44 ∷ 47 ∷ 49 ∷ 51 ∷ 54 ∷ 57 ∷ 64 ∷ 71 ∷ 84 ∷ 94 ∷ 106 ∷ 117 ∷ 129 ∷ 136 ∷ 143 ∷ 155 ∷ 166 ∷ 178 ∷ 189 ∷ 195 ∷ 198 ∷ 201 ∷ 208 ∷ 210 ∷ 214 ∷ 215 ∷ 216 ∷ 217 ∷ 218 ∷ 221 ∷ 223 ∷ 231 ∷ 235 ∷ 238 ∷ 243 ∷ 248 ∷ 252 ∷ 257 ∷ 261 ∷ 265 ∷ 269 ∷ 274 ∷ 276 ∷ 283 ∷ 289 ∷ 292 ∷ 297 ∷ 301 ∷ 305 ∷ 311 ∷ 314 ∷ 319 ∷ 323 ∷ 328 ∷ 331 ∷ 337 ∷ []
+nameAt = 0 ∷ 3 ∷ 7 ∷ 11 ∷ 14 ∷ 22 ∷ 29 ∷ 39 ∷ 42 ∷ 44 ∷ 47 ∷ 49 ∷ 51 ∷ 54 ∷ 57 ∷ 64 ∷ 71 ∷ 84 ∷ 94 ∷ 106 ∷ 117 ∷ 129 ∷ 136 ∷ 143 ∷ 155 ∷ 166 ∷ 178 ∷ 189 ∷ 195 ∷ 198 ∷ 201 ∷ 208 ∷ 210 ∷ 214 ∷ 215 ∷ 216 ∷ 217 ∷ 218 ∷ 221 ∷ 223 ∷ 231 ∷ 235 ∷ 238 ∷ 243 ∷ 248 ∷ 252 ∷ 257 ∷ 261 ∷ 265 ∷ 269 ∷ 274 ∷ 276 ∷ 283 ∷ 289 ∷ 292 ∷ 297 ∷ 301 ∷ 305 ∷ 308 ∷ 313 ∷ 317 ∷ 322 ∷ 325 ∷ 331 ∷ []
 
 -- LOW
 unfoldable pub low : List ℕ
-low = 0 ∷ 1 ∷ 0 ∷ 0 ∷ 0 ∷ 0 ∷ 0 ∷ 1 ∷ 0 ∷ 1 ∷ 2 ∷ 3 ∷ []
+low = 0 ∷ 1 ∷ 0 ∷ 0 ∷ 0 ∷ 0 ∷ 0 ∷ 1 ∷ 0 ∷ []
 
 -- HIGH
 unfoldable pub high : List ℕ
-high = 1 ∷ 31 ∷ 255 ∷ 31 ∷ 63 ∷ 127 ∷ 95 ∷ 9 ∷ 7 ∷ 1 ∷ 2 ∷ 3 ∷ []
+high = 1 ∷ 31 ∷ 255 ∷ 31 ∷ 63 ∷ 127 ∷ 95 ∷ 9 ∷ 7 ∷ []
 
 -- ALSO_LOW
 unfoldable pub alsoLow : List ℕ
-alsoLow = 0 ∷ 1 ∷ 0 ∷ 0 ∷ 0 ∷ 0 ∷ 0 ∷ 16 ∷ 32 ∷ 1 ∷ 2 ∷ 3 ∷ []
+alsoLow = 0 ∷ 1 ∷ 0 ∷ 0 ∷ 0 ∷ 0 ∷ 0 ∷ 16 ∷ 32 ∷ []
 
 -- ALSO_HIGH
 unfoldable pub alsoHigh : List ℕ
-alsoHigh = 1 ∷ 31 ∷ 255 ∷ 31 ∷ 63 ∷ 127 ∷ 95 ∷ 16 ∷ 39 ∷ 1 ∷ 2 ∷ 3 ∷ []
+alsoHigh = 1 ∷ 31 ∷ 255 ∷ 31 ∷ 63 ∷ 127 ∷ 95 ∷ 16 ∷ 39 ∷ []
 
 -- WORD_FIRST
 unfoldable pub wordFirst : List ℕ
@@ -51,15 +51,15 @@ wordCount = 2 ∷ 4 ∷ 3 ∷ 2 ∷ []
 
 -- PAIR_KEY
 unfoldable pub pairKey : List ℕ
-pairKey = 39 ∷ 40 ∷ 41 ∷ 42 ∷ 39 ∷ 40 ∷ 43 ∷ 39 ∷ 41 ∷ 40 ∷ 42 ∷ 44 ∷ 45 ∷ 46 ∷ 47 ∷ 48 ∷ 49 ∷ 47 ∷ 48 ∷ 49 ∷ 47 ∷ 48 ∷ 49 ∷ 47 ∷ 48 ∷ 49 ∷ 50 ∷ 43 ∷ 50 ∷ 43 ∷ 50 ∷ 43 ∷ 50 ∷ 48 ∷ 49 ∷ 50 ∷ 48 ∷ 49 ∷ 51 ∷ 51 ∷ 51 ∷ 51 ∷ 51 ∷ 52 ∷ 45 ∷ 46 ∷ 53 ∷ 54 ∷ 55 ∷ 56 ∷ 57 ∷ 58 ∷ 59 ∷ 60 ∷ 61 ∷ 62 ∷ 63 ∷ 57 ∷ 58 ∷ 59 ∷ 60 ∷ 61 ∷ 62 ∷ 63 ∷ 57 ∷ 58 ∷ 59 ∷ 60 ∷ 61 ∷ 62 ∷ 63 ∷ []
+pairKey = 39 ∷ 40 ∷ 41 ∷ 42 ∷ 39 ∷ 40 ∷ 43 ∷ 39 ∷ 41 ∷ 40 ∷ 42 ∷ 44 ∷ 45 ∷ 46 ∷ 47 ∷ 48 ∷ 49 ∷ 47 ∷ 48 ∷ 49 ∷ 47 ∷ 48 ∷ 49 ∷ 47 ∷ 48 ∷ 49 ∷ 50 ∷ 43 ∷ 50 ∷ 43 ∷ 50 ∷ 43 ∷ 50 ∷ 48 ∷ 49 ∷ 50 ∷ 48 ∷ 49 ∷ 51 ∷ 51 ∷ 51 ∷ 51 ∷ 51 ∷ 52 ∷ 45 ∷ 46 ∷ 53 ∷ 54 ∷ 55 ∷ 56 ∷ 57 ∷ 58 ∷ 59 ∷ 60 ∷ 61 ∷ 62 ∷ []
 
 -- PAIR_KIND
 unfoldable pub pairKind : List ℕ
-pairKind = 0 ∷ 1 ∷ 12 ∷ 2 ∷ 0 ∷ 1 ∷ 2 ∷ 0 ∷ 12 ∷ 13 ∷ 13 ∷ 13 ∷ 13 ∷ 5 ∷ 3 ∷ 13 ∷ 13 ∷ 3 ∷ 13 ∷ 13 ∷ 3 ∷ 13 ∷ 13 ∷ 3 ∷ 13 ∷ 13 ∷ 14 ∷ 2 ∷ 14 ∷ 2 ∷ 14 ∷ 2 ∷ 14 ∷ 13 ∷ 13 ∷ 14 ∷ 13 ∷ 13 ∷ 6 ∷ 6 ∷ 6 ∷ 6 ∷ 6 ∷ 7 ∷ 4 ∷ 5 ∷ 0 ∷ 0 ∷ 8 ∷ 8 ∷ 9 ∷ 15 ∷ 6 ∷ 6 ∷ 15 ∷ 6 ∷ 6 ∷ 10 ∷ 15 ∷ 6 ∷ 6 ∷ 15 ∷ 6 ∷ 6 ∷ 11 ∷ 15 ∷ 6 ∷ 6 ∷ 15 ∷ 6 ∷ 6 ∷ []
+pairKind = 0 ∷ 1 ∷ 9 ∷ 2 ∷ 0 ∷ 1 ∷ 2 ∷ 0 ∷ 9 ∷ 10 ∷ 10 ∷ 10 ∷ 10 ∷ 5 ∷ 3 ∷ 10 ∷ 10 ∷ 3 ∷ 10 ∷ 10 ∷ 3 ∷ 10 ∷ 10 ∷ 3 ∷ 10 ∷ 10 ∷ 11 ∷ 2 ∷ 11 ∷ 2 ∷ 11 ∷ 2 ∷ 11 ∷ 10 ∷ 10 ∷ 11 ∷ 10 ∷ 10 ∷ 6 ∷ 6 ∷ 6 ∷ 6 ∷ 6 ∷ 7 ∷ 4 ∷ 5 ∷ 0 ∷ 0 ∷ 8 ∷ 8 ∷ 12 ∷ 6 ∷ 6 ∷ 12 ∷ 6 ∷ 6 ∷ []
 
 -- FORM_AT
 unfoldable pub formAt : List ℕ
-formAt = 0 ∷ 0 ∷ 4 ∷ 6 ∷ 7 ∷ 11 ∷ 12 ∷ 14 ∷ 17 ∷ 20 ∷ 23 ∷ 26 ∷ 28 ∷ 30 ∷ 32 ∷ 35 ∷ 38 ∷ 39 ∷ 40 ∷ 41 ∷ 42 ∷ 43 ∷ 43 ∷ 44 ∷ 44 ∷ 44 ∷ 44 ∷ 44 ∷ 46 ∷ 48 ∷ 48 ∷ 50 ∷ 57 ∷ 64 ∷ 71 ∷ []
+formAt = 0 ∷ 0 ∷ 4 ∷ 6 ∷ 7 ∷ 11 ∷ 12 ∷ 14 ∷ 17 ∷ 20 ∷ 23 ∷ 26 ∷ 28 ∷ 30 ∷ 32 ∷ 35 ∷ 38 ∷ 39 ∷ 40 ∷ 41 ∷ 42 ∷ 43 ∷ 43 ∷ 44 ∷ 44 ∷ 44 ∷ 44 ∷ 44 ∷ 46 ∷ 48 ∷ 48 ∷ 50 ∷ 56 ∷ []
 
 -- f 0, f 1, .. f (n - 1)
 abbrev pub tabulate : {A : Type 0} → ℕ → (ℕ → A) → List A
@@ -96,12 +96,6 @@ below (suc n) f t (suc k) h = below n (λ i. f (suc i)) (and-right (f zero) (all
 -- Two numbers of a table, in order at each place below n.
 inOrder : (n : ℕ) (f g : ℕ → ℕ) → T (allBelow n (λ k. leb (f k) (g k))) → (k : ℕ) → k < n → f k ≤ g k
 inOrder n f g t k h = leb→le (f k) (g k) (below n (λ k. leb (f k) (g k)) t k h)
-
--- The same at the n places from a on.
-inOrderFrom : (a n : ℕ) (f g : ℕ → ℕ) → T (allBelow n (λ i. leb (f (a + i)) (g (a + i)))) → (k : ℕ) → a ≤ k → k < a + n → f k ≤ g k
-inOrderFrom a n f g t k h l =
-    let e : a + (k - a) ≡ k = omega arith in
-    subst (λ (j : ℕ). f j ≤ g j) e (inOrder n (λ i. f (a + i)) (λ i. g (a + i)) t (k - a) (omega arith))
 
 -- A place that is in a table of m is in one of k, and so is the next, where k is as large, and larger.
 pub in-table : {n m k : ℕ} → n < m → T (leb m k) → n < k
@@ -214,7 +208,7 @@ abbrev pub pairTable : ℕ → Pair
 pairTable k = record { key = getD names (getD pairKey k 0) []; kind = kindAt (getD pairKind k 0) }
 
 pairs-are : pairs ≡ tabulate pairCount pairTable
-unfolding pairs forms planForm names opNames keys kindAt kinds pairKey pairKind
+unfolding pairs forms names opNames keys kindAt kinds pairKey pairKind
 pairs-are = refl
 
 pub pair-is : (k : ℕ) → k < pairCount → pairAt k ≡ pairTable k
@@ -222,7 +216,7 @@ unfolding pairAt
 pair-is = tabled pairs pairCount pairTable (record { key = []; kind = decision }) pairs-are
 
 pub pairs-length : length pairs ≡ pairCount
-unfolding pairs forms planForm
+unfolding pairs forms
 pairs-length = refl
 
 pub pair-keys : (k : ℕ) → k < pairCount → getD pairKey k 0 < nameCount
@@ -244,7 +238,7 @@ abbrev pub formTable : ℕ → List Pair
 formTable k = take (getD formAt (k + 1) 0 - getD formAt k 0) (drop (getD formAt k 0) pairs)
 
 forms-are : forms ≡ tabulate formCount formTable
-unfolding forms planForm pairs formAt
+unfolding forms pairs formAt
 forms-are = refl
 
 pub form-is : (k : ℕ) → k < formCount → formOf k ≡ formTable k
@@ -259,29 +253,16 @@ pub form-fits : (k : ℕ) → k < formCount + 1 → Fits w64 (getD formAt k 0)
 unfolding formAt
 form-fits k h = fits-under w64 _ (pairCount + 1) (inOrder (formCount + 1) (λ k. suc (getD formAt k 0)) (λ k. (pairCount + 1)) tt k h) tt
 
--- No form has more pairs than there are values; that of an operation has one less, for the operation itself.
-pub form-sizes : (k : ℕ) → k < formCount → getD formAt (k + 1) 0 ≤ getD formAt k 0 + 7
+-- No form has more than six pairs: with the first pair of its line a value for each.
+pub form-sizes : (k : ℕ) → k < formCount → getD formAt (k + 1) 0 ≤ getD formAt k 0 + 6
 unfolding formAt
-form-sizes = inOrder formCount (λ k. getD formAt (k + 1) 0) (λ k. getD formAt k 0 + 7) tt
+form-sizes = inOrder formCount (λ k. getD formAt (k + 1) 0) (λ k. getD formAt k 0 + 6) tt
 
-pub op-sizes : (k : ℕ) → k < opCount → getD formAt (k + 1) 0 ≤ getD formAt k 0 + 6
-unfolding formAt
-op-sizes = inOrder opCount (λ k. getD formAt (k + 1) 0) (λ k. getD formAt k 0 + 6) tt
-
--- The forms of the operations, and those of the plan lines, which begin with a number.
+-- The forms of the operations, and that of the plan lines.
 pub op-form : (k : ℕ) → k < opCount → opForm LP5523 k ≡ formOf k
 unfolding opForm formOf forms
-op-form k h = sym (List·getD-append (map (λ (l : OpLine). l .form) (opLines LP5523)) (planForm LP5523 1 ∷ planForm LP5523 2 ∷ planForm LP5523 3 ∷ []) [] k h)
+op-form k h = sym (List·getD-append (map (λ (l : OpLine). l .form) (opLines LP5523)) (planPairs LP5523 ∷ []) [] k h)
 
-pub plan-forms : (formOf opCount ≡ planForm LP5523 1) × (formOf 32 ≡ planForm LP5523 2) × (formOf 33 ≡ planForm LP5523 3)
+pub plan-form : planPairs LP5523 ≡ formOf opCount
 unfolding formOf forms
-plan-forms = (refl, refl, refl)
-
--- A plan line has a pair, and the first is no yes or no.
-pub plan-starts : (k : ℕ) → opCount ≤ k → k < formCount → getD formAt k 0 < getD formAt (k + 1) 0
-unfolding formAt
-plan-starts = inOrderFrom opCount 3 (λ k. suc (getD formAt k 0)) (λ k. getD formAt (k + 1) 0) tt
-
-pub plan-kinds : (k : ℕ) → opCount ≤ k → k < formCount → getD pairKind (getD formAt k 0) 0 < decisionKind
-unfolding formAt pairKind
-plan-kinds = inOrderFrom opCount 3 (λ k. suc (getD pairKind (getD formAt k 0) 0)) (λ k. decisionKind) tt
+plan-form = refl

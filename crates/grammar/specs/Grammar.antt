@@ -8,8 +8,8 @@ use Rattle.word.specs.Profile.{Profile}
 use Rattle.word.specs.Field.{Field, flag, time, byte, skip, loops, step, address, output, triggers, rangesOf, _to_, upto}
 use Rattle.grammar.specs.declared.Value.{Value}
 use Rattle.grammar.specs.declared.Value.the-variants.{Number, Malformed, Outside}
-use Rattle.grammar.specs.declared.Form.{Form}
-use Rattle.grammar.specs.declared.Form.the-variants.{Op, Engine1, Engine2, Engine3, Row, Spare}
+use Rattle.grammar.specs.declared.LineKind.{LineKind}
+use Rattle.grammar.specs.declared.LineKind.the-variants.{Op, Plan, Row, Spare}
 use Rattle.grammar.specs.Form.{number, word, decision, Pair, Reading, refused, before, unknown, readWord, readForm, writeForm}
 
 -- "Variables are written A, B, C, D"; D can't be written to.
@@ -78,12 +78,15 @@ module _ (P : Profile) where
       op "int" [] ∷
       op "trigger" ("wait" within triggers ∷ "send" within triggers ∷ []) ∷ []
 
-  -- "engine=1 use=yes first=0 last=6 table=no", "engine=3 use=no", "table=yes top=20 bottom=23".
-  unfoldable pub planForm : ℕ → List Pair
-  planForm i =
-      record { key = ascii "engine"; kind = number (i to i ∷ []) } ∷
+  -- "engine=1 use=yes first=0 last=6 table=no", "engine=3 use=no", "table=yes top=20 bottom=23": the pairs after the engine's number.
+  abbrev pub planPairs : List Pair
+  planPairs =
       asks "use" ∷ "first" within address ∷ "last" within address ∷
       asks "table" ∷ "top" within address ∷ "bottom" within address ∷ []
+
+  -- The plan line of engine i.
+  unfoldable pub planForm : ℕ → List Pair
+  planForm i = record { key = ascii "engine"; kind = number (i to i ∷ []) } ∷ planPairs
 
   unfoldable pub opNames : List (List ℕ)
   opNames = map (λ (l : OpLine). l .name) opLines
@@ -110,17 +113,15 @@ unfoldable pub readOp : Profile → List (List ℕ) → Reading
 readOp P [] = refused 20
 readOp P (p ∷ ps) = named P (readWord (opNames P) (valueOf (ascii "op") p)) ps
 
--- The values of a line of one of the forms.
-unfoldable pub readParts : Profile → Form → List (List ℕ) → Reading
+-- The values of a line of one of the kinds.
+unfoldable pub readParts : Profile → LineKind → List (List ℕ) → Reading
 readParts P Op ps = readOp P ps
-readParts P Engine1 ps = readForm (planForm P 1) ps
-readParts P Engine2 ps = readForm (planForm P 2) ps
-readParts P Engine3 ps = readForm (planForm P 3) ps
+readParts P (Plan i) ps = readForm (planForm P i) ps
 readParts P Row ps = readForm (wordForm "row") ps
 readParts P Spare ps = readForm (wordForm "spare") ps
 
-unfoldable pub readLine : Profile → Form → List ℕ → Reading
-readLine P f line = readParts P f (split space line)
+unfoldable pub readLine : Profile → LineKind → List ℕ → Reading
+readLine P k line = readParts P k (split space line)
 
 -- ---- writing
 
@@ -128,14 +129,12 @@ unfoldable pub writeOp : Profile → List ℕ → List (List ℕ)
 writeOp P [] = []
 writeOp P (o ∷ ns) = (ascii "op" ++ (equalsSign ∷ getD (opNames P) o [])) ∷ writeForm (opForm P o) ns
 
-unfoldable pub writeParts : Profile → Form → List ℕ → List (List ℕ)
+unfoldable pub writeParts : Profile → LineKind → List ℕ → List (List ℕ)
 writeParts P Op ns = writeOp P ns
-writeParts P Engine1 ns = writeForm (planForm P 1) ns
-writeParts P Engine2 ns = writeForm (planForm P 2) ns
-writeParts P Engine3 ns = writeForm (planForm P 3) ns
+writeParts P (Plan i) ns = writeForm (planForm P i) ns
 writeParts P Row ns = writeForm (wordForm "row") ns
 writeParts P Spare ns = writeForm (wordForm "spare") ns
 
 -- A line with these values, without its LF.
-unfoldable pub writeLine : Profile → Form → List ℕ → List ℕ
-writeLine P f ns = join space (writeParts P f ns)
+unfoldable pub writeLine : Profile → LineKind → List ℕ → List ℕ
+writeLine P k ns = join space (writeParts P k ns)

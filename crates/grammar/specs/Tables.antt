@@ -7,43 +7,43 @@ use lib.Dec.{eqb, leb}
 use lib.ListN.{length, getD, drop}
 use Rattle.text.specs.Bytes.{ascii, space, split}
 use Rattle.word.specs.Profile.{LP5523}
-use Rattle.word.specs.Field.{Range, flag, time, byte, skip, loops, step, address, output, triggers, rangesOf, _to_}
+use Rattle.word.specs.Field.{Range, flag, time, byte, skip, loops, step, address, output, triggers, rangesOf}
 use Rattle.grammar.specs.declared.Value.{Value}
 use Rattle.grammar.specs.declared.Value.the-variants.{Number, Malformed, Outside}
 use Rattle.grammar.specs.declared.Values.{Values}
 use Rattle.grammar.specs.declared.LineRead.{LineRead}
 use Rattle.grammar.specs.declared.LineRead.the-variants.{Read, Refused}
 use Rattle.grammar.specs.Form.{Kind, number, word, decision, answers, Pair, Reading, values, refused, before, atEnd, unknown}
-use Rattle.grammar.specs.Grammar.{OpLine, opLines, opNames, directions, variables, targets, planForm}
+use Rattle.grammar.specs.Grammar.{OpLine, opLines, opNames, directions, variables, targets, planPairs}
 
 -- How many entries the tables have: operations, names, the bytes of all names, kinds of numbers, all kinds, pairs, forms.
 abbrev pub opCount : ℕ
 opCount = 31
 
 abbrev pub nameCount : ℕ
-nameCount = 64
+nameCount = 63
 
 abbrev pub byteCount : ℕ
-byteCount = 337
+byteCount = 331
 
 abbrev pub numberKinds : ℕ
-numberKinds = 12
+numberKinds = 9
 
 abbrev pub kindCount : ℕ
-kindCount = 16
+kindCount = 13
 
 abbrev pub pairCount : ℕ
-pairCount = 71
+pairCount = 56
 
 abbrev pub formCount : ℕ
-formCount = 34
+formCount = 32
 
 -- The place of the kind of a yes or no.
 abbrev pub decisionKind : ℕ
-decisionKind = 15
+decisionKind = 12
 
 unfoldable pub keys : List (List ℕ)
-keys = ascii "prescale" ∷ ascii "time" ∷ ascii "dir" ∷ ascii "count" ∷ ascii "value" ∷ ascii "from" ∷ ascii "loops" ∷ ascii "step" ∷ ascii "skip" ∷ ascii "left" ∷ ascii "right" ∷ ascii "to" ∷ ascii "address" ∷ ascii "output" ∷ ascii "int" ∷ ascii "reset" ∷ ascii "wait" ∷ ascii "send" ∷ ascii "engine" ∷ ascii "use" ∷ ascii "first" ∷ ascii "last" ∷ ascii "table" ∷ ascii "top" ∷ ascii "bottom" ∷ []
+keys = ascii "prescale" ∷ ascii "time" ∷ ascii "dir" ∷ ascii "count" ∷ ascii "value" ∷ ascii "from" ∷ ascii "loops" ∷ ascii "step" ∷ ascii "skip" ∷ ascii "left" ∷ ascii "right" ∷ ascii "to" ∷ ascii "address" ∷ ascii "output" ∷ ascii "int" ∷ ascii "reset" ∷ ascii "wait" ∷ ascii "send" ∷ ascii "use" ∷ ascii "first" ∷ ascii "last" ∷ ascii "table" ∷ ascii "top" ∷ ascii "bottom" ∷ []
 
 -- Every name in a sheet: operations, words, keys.
 unfoldable pub names : List (List ℕ)
@@ -60,9 +60,6 @@ kinds =
     number (rangesOf LP5523 address) ∷
     number (rangesOf LP5523 output) ∷
     number (rangesOf LP5523 triggers) ∷
-    number (1 to 1 ∷ []) ∷
-    number (2 to 2 ∷ []) ∷
-    number (3 to 3 ∷ []) ∷
     word directions ∷
     word variables ∷
     word targets ∷
@@ -80,11 +77,10 @@ rangesIn decision = []
 unfoldable pub rangesAt : ℕ → List Range
 rangesAt k = rangesIn (kindAt k)
 
--- The forms of more than one pair: the operations' in the table's order, then the plan lines'.
+-- What follows the first pair of a line: of the operations in the table's order, then of a plan line.
 unfoldable pub forms : List (List Pair)
 forms =
-    map (λ (l : OpLine). l .form) (opLines LP5523) ++
-    (planForm LP5523 1 ∷ planForm LP5523 2 ∷ planForm LP5523 3 ∷ [])
+    map (λ (l : OpLine). l .form) (opLines LP5523) ++ (planPairs LP5523 ∷ [])
 
 abbrev pub concat : List (List Pair) → List Pair
 concat [] = []

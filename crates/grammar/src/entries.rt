@@ -4,9 +4,9 @@
 // The operations; their names come first, and so do their forms.
 pub const OPS: usize = 31;
 
-const NAME_COUNT: usize = 64;
+const NAME_COUNT: usize = 63;
 
-const NAME_BYTES: usize = 337;
+const NAME_BYTES: usize = 331;
 
 // The names in a sheet, one after the other: operations, the words of values, keys.
 pub const NAMES: [u8; NAME_BYTES] = *b"rstrampwaitsetramp-varset-varbranch-varjnejljgejeldadd\
@@ -14,7 +14,7 @@ subadd-varsub-varmux-map-startmux-ld-endmux-ld-startmux-ld-addrmux-map-addr\
 mux-clrmux-selmux-map-nextmux-ld-nextmux-map-prevmux-ld-prevbranchendinttrigger\
 updownABCDyesno\
 prescaletimedircountvaluefromloopsstepskipleftrighttoaddress\
-outputintresetwaitsendengineusefirstlasttabletopbottom";
+outputintresetwaitsendusefirstlasttabletopbottom";
 
 // Where each name begins; the last entry is where the last one ends.
 pub const NAME_AT: [u16; NAME_COUNT + 1] = [
@@ -75,13 +75,12 @@ pub const NAME_AT: [u16; NAME_COUNT + 1] = [
     292, // reset
     297, // wait
     301, // send
-    305, // engine
-    311, // use
-    314, // first
-    319, // last
-    323, // table
-    328, // top
-    331, // bottom
+    305, // use
+    308, // first
+    313, // last
+    317, // table
+    322, // top
+    325, // bottom
     NAME_BYTES as u16,
 ];
 
@@ -128,9 +127,7 @@ const WAIT: u8 = RESET + 1;
 
 const SEND: u8 = WAIT + 1;
 
-const ENGINE: u8 = SEND + 1;
-
-const USE: u8 = ENGINE + 1;
+const USE: u8 = SEND + 1;
 
 const FIRST: u8 = USE + 1;
 
@@ -161,13 +158,7 @@ const OUTPUTS: u8 = ADDRESSES + 1;
 
 const TRIGGERS: u8 = OUTPUTS + 1;
 
-const ENGINE_1: u8 = TRIGGERS + 1;
-
-const ENGINE_2: u8 = ENGINE_1 + 1;
-
-const ENGINE_3: u8 = ENGINE_2 + 1;
-
-const DIRECTIONS: u8 = ENGINE_3 + 1;
+const DIRECTIONS: u8 = TRIGGERS + 1;
 
 const VARIABLES: u8 = DIRECTIONS + 1;
 
@@ -179,25 +170,28 @@ pub const DECISION: u8 = TARGETS + 1;
 pub const NUMBERS: usize = DIRECTIONS as usize;
 
 // A number lies from LOW to HIGH or from ALSO_LOW to ALSO_HIGH; a kind with one range has it twice.
-pub const LOW: [u16; NUMBERS] = [0, 1, 0, 0, 0, 0, 0, 1, 0, 1, 2, 3];
+pub const LOW: [u16; NUMBERS] = [0, 1, 0, 0, 0, 0, 0, 1, 0];
 
-pub const HIGH: [u16; NUMBERS] = [1, 31, 255, 31, 63, 127, 95, 9, 7, 1, 2, 3];
+pub const HIGH: [u16; NUMBERS] = [1, 31, 255, 31, 63, 127, 95, 9, 7];
 
-pub const ALSO_LOW: [u16; NUMBERS] = [0, 1, 0, 0, 0, 0, 0, 16, 32, 1, 2, 3];
+pub const ALSO_LOW: [u16; NUMBERS] = [0, 1, 0, 0, 0, 0, 0, 16, 32];
 
-pub const ALSO_HIGH: [u16; NUMBERS] = [1, 31, 255, 31, 63, 127, 95, 16, 39, 1, 2, 3];
+pub const ALSO_HIGH: [u16; NUMBERS] = [1, 31, 255, 31, 63, 127, 95, 16, 39];
 
 // A word is one of so many names from this one on.
 pub const WORD_FIRST: [u8; 4] = [UP, A, A, YES];
 
 pub const WORD_COUNT: [u8; 4] = [2, 4, 3, 2];
 
-const FORM_COUNT: usize = OPS + 3;
+// The form of the plan lines.
+pub const PLAN_FORM: usize = OPS;
 
-const PAIR_COUNT: usize = 71;
+const FORM_COUNT: usize = PLAN_FORM + 1;
+
+const PAIR_COUNT: usize = 56;
 
 // The pairs of all forms, one form after the other: of each the place of its key among the names, and its
-// kind.
+// kind. A form here is what follows the first pair of a line, which is `op=` or `engine=`.
 pub const PAIR_KEY: [u8; PAIR_COUNT] = [
     // ramp
     PRESCALE,
@@ -273,24 +267,7 @@ pub const PAIR_KEY: [u8; PAIR_COUNT] = [
     // trigger
     WAIT,
     SEND,
-    // engine=1
-    ENGINE,
-    USE,
-    FIRST,
-    LAST,
-    TABLE,
-    TOP,
-    BOTTOM,
-    // engine=2
-    ENGINE,
-    USE,
-    FIRST,
-    LAST,
-    TABLE,
-    TOP,
-    BOTTOM,
-    // engine=3
-    ENGINE,
+    // plan
     USE,
     FIRST,
     LAST,
@@ -374,24 +351,7 @@ pub const PAIR_KIND: [u8; PAIR_COUNT] = [
     // trigger
     TRIGGERS,
     TRIGGERS,
-    // engine=1
-    ENGINE_1,
-    DECISION,
-    ADDRESSES,
-    ADDRESSES,
-    DECISION,
-    ADDRESSES,
-    ADDRESSES,
-    // engine=2
-    ENGINE_2,
-    DECISION,
-    ADDRESSES,
-    ADDRESSES,
-    DECISION,
-    ADDRESSES,
-    ADDRESSES,
-    // engine=3
-    ENGINE_3,
+    // plan
     DECISION,
     ADDRESSES,
     ADDRESSES,
@@ -433,8 +393,6 @@ pub const FORM_AT: [u8; FORM_COUNT + 1] = [
     46, // end
     48, // int
     48, // trigger
-    50, // engine=1
-    57, // engine=2
-    64, // engine=3
+    50, // plan
     PAIR_COUNT as u8,
 ];

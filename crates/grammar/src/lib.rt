@@ -14,15 +14,15 @@ pub use entries::NUMBERS;
 pub use entries::OPS;
 pub use entries::PAIR_KEY;
 pub use entries::PAIR_KIND;
+pub use entries::PLAN_FORM;
 pub use entries::WORD_COUNT;
 pub use entries::WORD_FIRST;
 
-// The forms of a sheet's lines.
-pub enum Form {
+// The kinds of a sheet's lines.
+pub enum LineKind {
     Op,
-    Engine1,
-    Engine2,
-    Engine3,
+    // the plan of the engine with this number; engines are counted from 1
+    Plan(u16),
     Row,
     Spare,
 }

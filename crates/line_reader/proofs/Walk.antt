@@ -14,17 +14,17 @@ use denote.Enum.Declared.{tagOf}
 use Rattle.text.specs.Bytes.{ascii, space, split, partAt, same, valueOf, isPair}
 use Rattle.text.specs.Number.{readNumber}
 use Rattle.text.proofs.Splits.{part-within, split-at-some, split-at-none}
-use Rattle.word.specs.Field.{upto}
+use Rattle.word.specs.Field.{_to_, upto}
 use Rattle.word.specs.Profile.{LP5523}
 use Rattle.grammar.specs.declared.Value.{Value}
 use Rattle.grammar.specs.declared.Value.the-variants.{Number, Malformed, Outside}
 use Rattle.grammar.specs.Form.{Kind, number, word, decision, Pair, Reading, values, refused, placeOf, readWord, held, readValue, readPair, before, allPairs, atEnd, decided, followed, readForm}
-use Rattle.grammar.specs.Grammar.{number16, named, readOp}
+use Rattle.grammar.specs.Grammar.{planForm, number16, named, readOp}
 use Rattle.grammar.specs.Tables.{opCount, nameCount, pairCount, names, pairs, pairAt, formOf, stopsAt, stoppedBy, partsFrom, valuesOf, lineReadOf, beforeRead}
 use Rattle.grammar.proofs.Value as variants
 use Rattle.grammar.proofs.Places.{word-read}
 use Rattle.grammar.proofs.Ranges.{other-value}
-use Rattle.grammar.proofs.Tables.{names-length, ops-first, pairs-length, op-form}
+use Rattle.grammar.proofs.Tables.{names-length, ops-first, pairs-length, op-form, plan-form}
 
 -- ---- the parts of a line
 
@@ -162,6 +162,15 @@ pub single-form : (k line part : List ℕ) → part ≡ partAt space 0 line
     → readForm (number16 k ∷ []) (split space line) ≡ before (held (upto 65535) (readNumber 65535 (valueOf k part))) (atEnd (partsFrom (length part + 1) line))
 unfolding readForm followed readPair readValue
 single-form k line part is = ap (readForm (number16 k ∷ [])) (first-part line part is)
+
+-- a plan line
+pub plan-line : (i : ℕ) (line part : List ℕ) → part ≡ partAt space 0 line
+    → readForm (planForm LP5523 i) (split space line)
+    ≡ before (held (i to i ∷ []) (readNumber 65535 (valueOf (ascii "engine") part))) (readForm (formOf opCount) (partsFrom (length part + 1) line))
+unfolding readForm followed readPair readValue planForm
+plan-line i line part is =
+    ap (readForm (planForm LP5523 i)) (first-part line part is)
+    ∙ ap (λ (fs : List Pair). before (held (i to i ∷ []) (readNumber 65535 (valueOf (ascii "engine") part))) (readForm fs (partsFrom (length part + 1) line))) plan-form
 
 -- ---- the words of the table
 

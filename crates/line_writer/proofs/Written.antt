@@ -19,10 +19,10 @@ use Rattle.word.specs.Profile.{LP5523}
 use Rattle.grammar.specs.declared.Value.{Value}
 use Rattle.grammar.specs.declared.Value.the-variants.{Number}
 use Rattle.grammar.specs.Form.{Kind, number, word, decision, answers, Pair, writeValue, writePair, continued, writeForm}
-use Rattle.grammar.specs.Grammar.{OpLine, opLines, opNames, opForm, directions, variables, number16, wordForm, writeOp}
+use Rattle.grammar.specs.Grammar.{OpLine, opLines, opNames, opForm, planPairs, directions, variables, number16, wordForm, writeOp}
 use Rattle.grammar.specs.Tables.{opCount, numberKinds, kindCount, decisionKind, pairCount, formCount, keys, names, kindAt, pairs, pairAt, formOf, stopsAt}
 use Rattle.grammar.proofs.Ranges.{kind-number, stops-not}
-use Rattle.grammar.proofs.Tables.{pairKind, formAt, wordTable, formTable, wordCount, wordFirst, kind-is, answers-are, pairs-length, op-form, form-is, form-ends, plan-starts, plan-kinds}
+use Rattle.grammar.proofs.Tables.{pairKind, formAt, wordTable, formTable, wordCount, wordFirst, kind-is, answers-are, pairs-length, op-form, plan-form, form-is}
 
 -- ---- the kinds of values
 
@@ -57,10 +57,6 @@ word-none k n h l m =
     word-text k n h l ∙ List·getD-eq-default (wordTable (k - numberKinds)) [] (simp length-take (omega arith))
 
 -- ---- where a line ends
-
--- nothing but a yes or no ends a line before its form does
-pair-passes : (j : ℕ) (v : Value) → j < pairCount → getD pairKind j 0 < decisionKind → stopsAt (pairAt j .kind) v ≡ false
-pair-passes j v h l = stops-not j v h (λ e. omega arith)
 
 -- what is written after a value, by whether it ends the line
 pub keeps-on : (k : Kind) (n : ℕ) (ps : List (List ℕ)) → stopsAt k (Number n) ≡ false → continued k n ps ≡ ps
@@ -116,20 +112,10 @@ no-line o ns h =
     let form : opForm LP5523 o ≡ [] = List·getD-eq-default (map (λ (l : OpLine). l .form) (opLines LP5523)) [] h in
     rw (name, form)
 
--- the first pair of a plan line stands by itself: no space is before it, and the others follow whatever its value
-pub plan-line : (k n : ℕ) (ns : List ℕ) → opCount ≤ k → k < formCount →
-    let start = getD formAt k 0 in
-    join space (writeForm (formOf k) (n ∷ ns)) ≡ writePair (pairAt start) n ++ joined space (leftOf (getD formAt (k + 1) 0) (start + 1) 1 (n ∷ ns))
+-- a plan line: the engine's number, then the other pairs
+pub plan-line : (p : List ℕ) (ns : List ℕ) → join space (p ∷ writeForm (planPairs LP5523) ns) ≡ p ++ joined space (writeForm (formTable opCount) ns)
 unfolding join
-plan-line k n ns h l =
-    let start = getD formAt k 0 in
-    let end = getD formAt (k + 1) 0 in
-    let s : start < end = plan-starts k h l in
-    let e : end ≤ pairCount = form-ends (k + 1) (omega arith) in
-    let p : stopsAt (pairAt start .kind) (Number n) ≡ false = pair-passes start (Number n) (omega arith) (plan-kinds k h l) in
-    ap (λ (fs : List Pair). join space (writeForm fs (n ∷ ns))) (form-is k (omega arith))
-    ∙ ap (join space) (left-step end start 0 (n ∷ ns) n refl s e (omega arith))
-    ∙ ap (λ (ps : List (List ℕ)). writePair (pairAt start) n ++ joined space ps) (keeps-on (pairAt start .kind) n (leftOf end (start + 1) 1 (n ∷ ns)) p)
+plan-line p ns = ap (λ (fs : List Pair). p ++ joined space (writeForm fs ns)) (plan-form ∙ form-is opCount (omega arith))
 
 -- a line of one pair is that pair
 pub single-line : (k : String) (n : ℕ) (ns : List ℕ) → join space (writeForm (wordForm k) (n ∷ ns)) ≡ writePair (number16 (ascii k)) n

@@ -4,23 +4,25 @@ use super::names::put_name;
 use super::sequence::value_at;
 use grammar::DECISION;
 use grammar::FORM_AT;
-use grammar::Form;
+use grammar::LineKind;
 use grammar::OPS;
 use grammar::PAIR_KEY;
 use grammar::PAIR_KIND;
+use grammar::PLAN_FORM;
 use grammar::Values;
 use text::EQUALS_SIGN;
 use text::SPACE;
+ghost use mathlib.Core.List.{_∷_};
 ghost use mathlib.Core.Path.{_≡_};
 ghost use Prim.Native.Nat.{_+_, _-_, _≤_, _<_};
 ghost use lib.ListN.{take, drop};
-ghost use Rattle.text.specs.Bytes.{space, joined, join};
+ghost use Rattle.text.specs.Bytes.{ascii, space, joined, join};
 ghost use Rattle.text.specs.Put.{Put};
 ghost use Rattle.word.specs.Profile.{LP5523};
 ghost use Rattle.grammar.specs.declared.Value.the-variants.{Number};
 ghost use Rattle.grammar.specs.Form.{writePair, writeForm};
-ghost use Rattle.grammar.specs.Grammar.{number16, writeOp, writeLine};
-ghost use Rattle.grammar.specs.Tables.{opCount, pairCount, formCount, pairs, pairAt, formOf, stopsAt, listOf};
+ghost use Rattle.grammar.specs.Grammar.{planPairs, number16, writeOp, writeLine};
+ghost use Rattle.grammar.specs.Tables.{pairCount, pairs, pairAt, stopsAt, listOf};
 
 fn put_pair(out: &mut [u8], at: usize, pair: usize, n: u16) -> usize
     requires { ⌜ pair < pairCount ⌝ }
@@ -75,15 +77,6 @@ fn put_op(out: &mut [u8], at: usize, v: Values) -> usize
     put_pairs(out, name, FORM_AT[op] as usize, FORM_AT[op + 1] as usize, v)
 }
 
-fn put_form(out: &mut [u8], at: usize, form: usize, v: Values) -> usize
-    requires { ⌜ (opCount ≤ form) × (form < formCount) ⌝ }
-    ensures { λ r. ⌜ Put (now (out .entry)) (now (out .exit)) (join space (writeForm (formOf form) (listOf v))) at r ⌝ }
-{
-    let pair = FORM_AT[form] as usize;
-    let next = put_pair(out, at, pair, v.a);
-    put_pairs(out, next, pair + 1, FORM_AT[form + 1] as usize, v)
-}
-
 // A line of one pair, whose value is a number of 16 bits.
 fn put_single(out: &mut [u8], at: usize, key: &[u8], n: u16) -> usize
     ensures { λ r. ⌜ Put (now (out .entry)) (now (out .exit)) (writePair (number16 (now (key .entry))) n) at r ⌝ }
@@ -93,17 +86,29 @@ fn put_single(out: &mut [u8], at: usize, key: &[u8], n: u16) -> usize
     text_bytes::put_decimal(out, value, n as u32)
 }
 
+fn put_plan(out: &mut [u8], at: usize, v: Values) -> usize
+    ensures { λ r. ⌜ Put (now (out .entry)) (now (out .exit)) (join space (writePair (number16 (ascii "engine")) (v .a) ∷ writeForm (planPairs LP5523) (drop 1 (listOf v)))) at r ⌝ }
+{
+    let engine = put_single(out, at, b"engine", v.a);
+    let form = FORM_AT;
+    put_pairs(
+        out,
+        engine,
+        form[PLAN_FORM] as usize,
+        form[PLAN_FORM + 1] as usize,
+        v,
+    )
+}
+
 // Writes a line with these values, without its LF, as far as the lent bytes reach; answers the place
 // after it.
-pub fn put_line(out: &mut [u8], at: usize, form: Form, v: Values) -> usize
-    ensures { λ r. ⌜ Put (now (out .entry)) (now (out .exit)) (writeLine LP5523 form (listOf v)) at r ⌝ }
+pub fn put_line(out: &mut [u8], at: usize, kind: LineKind, v: Values) -> usize
+    ensures { λ r. ⌜ Put (now (out .entry)) (now (out .exit)) (writeLine LP5523 kind (listOf v)) at r ⌝ }
 {
-    match form {
-        Form::Op => put_op(out, at, v),
-        Form::Engine1 => put_form(out, at, 31, v),
-        Form::Engine2 => put_form(out, at, 32, v),
-        Form::Engine3 => put_form(out, at, 33, v),
-        Form::Row => put_single(out, at, b"row", v.a),
-        Form::Spare => put_single(out, at, b"spare", v.a),
+    match kind {
+        LineKind::Op => put_op(out, at, v),
+        LineKind::Plan(_) => put_plan(out, at, v),
+        LineKind::Row => put_single(out, at, b"row", v.a),
+        LineKind::Spare => put_single(out, at, b"spare", v.a),
     }
 }

@@ -1,5 +1,5 @@
 // The line of a code, written as far as there is room.
-use grammar::Form;
+use grammar::LineKind;
 use grammar::Values;
 ghost use Rattle.text.specs.Put.{Put};
 ghost use Rattle.word.specs.Profile.{LP5523};
@@ -20,5 +20,5 @@ pub fn put_op_line(out: &mut [u8], at: usize, code: u16) -> usize
         f: 0,
         g: 0,
     };
-    line_writer::put_line(out, at, Form::Op, v)
+    line_writer::put_line(out, at, LineKind::Op, v)
 }

@@ -20,7 +20,7 @@ use Rattle.word.proofs.Coded.{the-type}
 use Rattle.word.proofs.Theorems.{refuses-13}
 use Rattle.parts.specs.declared.Parts.{Parts}
 use Rattle.parts.specs.Parts.{parts}
-use Rattle.grammar.specs.declared.Form.the-variants.{Op}
+use Rattle.grammar.specs.declared.LineKind.the-variants.{Op}
 use Rattle.grammar.specs.declared.LineRead.the-variants.{Read, Refused}
 use Rattle.grammar.specs.declared.Values.{Values}
 use Rattle.grammar.specs.Form.{Reading, values, refused}

@@ -6,7 +6,7 @@ use mathlib.Core.Path.{_≡_, refl, sym, ap, _∙_}
 use Rattle.word.specs.Profile.{Profile}
 use Rattle.word.specs.Table.{encodeOf}
 use Rattle.word.proofs.Theorems.{refuses-up-by-zero}
-use Rattle.grammar.specs.declared.Form.the-variants.{Op}
+use Rattle.grammar.specs.declared.LineKind.the-variants.{Op}
 use Rattle.grammar.specs.Form.{Reading, values, refused}
 use Rattle.grammar.specs.Grammar.{opForm, readLine}
 use Rattle.grammar.specs.Theorems.{fitsOp, fitsLine}

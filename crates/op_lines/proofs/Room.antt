@@ -13,7 +13,7 @@ use Rattle.word.specs.Profile.{LP5523}
 use Rattle.word.specs.Table.{encodeOf}
 use Rattle.word.specs.Decode.{decodeOf}
 use Rattle.parts.specs.declared.Parts.{Parts}
-use Rattle.grammar.specs.declared.Form.the-variants.{Op}
+use Rattle.grammar.specs.declared.LineKind.the-variants.{Op}
 use Rattle.grammar.specs.Form.{Pair, writePair, continued, writeForm}
 use Rattle.grammar.specs.Grammar.{OpLine, opLines, opNames, opForm, writeOp, writeParts, writeLine}
 use Rattle.op_lines.specs.declared.WordWritten.{WordWritten}

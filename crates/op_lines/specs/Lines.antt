@@ -11,7 +11,7 @@ use Rattle.word.specs.Decode.{decodeOf}
 use Rattle.word.specs.declared.Word.{Word}
 use Rattle.parts.specs.declared.Parts.{Parts}
 use Rattle.parts.specs.Parts.{parts, partsOf}
-use Rattle.grammar.specs.declared.Form.the-variants.{Op}
+use Rattle.grammar.specs.declared.LineKind.the-variants.{Op}
 use Rattle.grammar.specs.Form.{Reading, values, refused}
 use Rattle.grammar.specs.Grammar.{opForm, readLine, writeLine}
 use Rattle.op_lines.specs.declared.WordLine.{WordLine}

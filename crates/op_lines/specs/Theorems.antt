@@ -8,7 +8,7 @@ use Rattle.word.specs.Profile.{Profile}
 use Rattle.word.specs.Answer.{success}
 use Rattle.word.specs.Decode.{decodeOf}
 use Rattle.word.specs.declared.Word.the-variants.{Undefined}
-use Rattle.grammar.specs.declared.Form.the-variants.{Op}
+use Rattle.grammar.specs.declared.LineKind.the-variants.{Op}
 use Rattle.grammar.specs.Form.{values}
 use Rattle.grammar.specs.Grammar.{readLine}
 use Rattle.grammar.specs.Conditions.{LineWellFormed, LineUnknown, LineOutside}

@@ -61,8 +61,8 @@ fn number_at(table: &[u16], place: usize) -> u32 {
     0
 }
 
-// The pairs of a form. The forms of the ops come first, in the order of their names, then those of the
-// plan lines.
+// The pairs of a form: what follows the first pair of a line. The forms of the ops come first, in the
+// order of their names, then that of the plan lines.
 pub(super) fn pairs_of(form: u32) -> Stretch {
     let at = form as usize;
     Stretch {
@@ -91,7 +91,7 @@ pub(super) fn ranges_of(kind: u32) -> Ranges {
 
 // The words of a kind among the names.
 pub(super) fn words_of(kind: u32) -> Stretch
-    requires { ⌜ 12 ≤ kind ⌝ }
+    requires { ⌜ 9 ≤ kind ⌝ }
 {
     let at = (kind - NUMBER_KINDS) as usize;
     let from = small_at(&WORD_FIRST, at);

@@ -289,7 +289,7 @@ op=$ has *, in this order\0\
 $= has no value\0\
 $= is a decimal number without leading zeros\0\
 $= is ~\0\
-$= is ~ in this line\0\
+engine= is % in this line\0\
 a $ up has $= 1 to %\0\
 a plan line is engine=% use=no, or engine=% use=yes first=.. last=.. table=no, or with table=yes top=.. bottom=.. at its end\0\
 row= is followed by one decimal number without leading zeros\0\

@@ -8,7 +8,7 @@ use mir.Syntax.{w64}
 use Rattle.text.specs.Put.{lastPlace}
 use Rattle.text.proofs.Puts.{put-append, put-is, put-length}
 use Rattle.grammar.specs.Tables.{opCount, formCount, listOf}
-use Rattle.grammar.proofs.Tables.{in-table, next-in-table, formAt, form-fits, form-ends, op-sizes}
+use Rattle.grammar.proofs.Tables.{in-table, next-in-table, formAt, form-fits, form-ends, form-sizes}
 use Rattle.line_writer.proofs.Written.{op-line, no-line}
 use Rattle.line_writer.proofs.writing.put_op.Statement.{statement}
 use Rattle.line_writer.proofs.writing.put_op.Tie as tie
@@ -30,7 +30,7 @@ cast-put-pairs-2 c = form-fits (op c + 1) (next-in-table (op c) (is-op c) tt)
 
 put-pairs-requires : tie.Need-put-pairs-requires
 unfolding formAt
-put-pairs-requires c κs = (form-ends (op c + 1) (next-in-table (op c) (is-op c) tt), op-sizes (op c) (is-op c))
+put-pairs-requires c κs = (form-ends (op c + 1) (next-in-table (op c) (is-op c) tt), form-sizes (op c) (in-table (is-op c) tt))
 
 returns : tie.Need-returns
 unfolding listOf

@@ -6,7 +6,7 @@ use Rattle.text.proofs.Puts.{put-is}
 use Rattle.word.specs.Profile.{LP5523}
 use Rattle.parts.specs.declared.Parts.{Parts}
 use Rattle.parts.specs.Parts.{partsOf}
-use Rattle.grammar.specs.declared.Form.the-variants.{Op}
+use Rattle.grammar.specs.declared.LineKind.the-variants.{Op}
 use Rattle.grammar.specs.Grammar.{writeLine}
 use Rattle.grammar.specs.Tables.{listOf}
 use Rattle.op_lines.specs.Lines.{valuesIn, opValues, opLineOf}
