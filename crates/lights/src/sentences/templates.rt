@@ -199,7 +199,7 @@ pub const ROW_PLACE: usize = 89;
 pub const SPARE_PLACE: usize = 90;
 
 // In the order of the places above.
-const TABLE: [u8; 4070] = *b"\0\
+const TABLE: [u8; 4075] = *b"\0\
 ^: \0\
 malformed: \0\
 refused %: \0\
