@@ -22,7 +22,7 @@ use Rattle.grammar.specs.Grammar.{readLine}
 use Rattle.asm.specs.Places.{lineKindAt}
 use Rattle.asm.specs.PlanLines.{planOf, enginePlanOf}
 use Rattle.asm.specs.Reading.{Sheet, program, refused-at, ranged, closed, withValues, withWord, readWordLine, readWords, readPlans, readSheet}
-use Rattle.asm.specs.Conditions.{Line, whole, cut, linesIn, linesOf, planIn, plansIn, planSaid, refusalOf, numberAt, lineCount, GoodTo, FirstBad, Ordered, Apart, GoodLines}
+use Rattle.asm.specs.Conditions.{Line, whole, cut, linesIn, linesOf, planIn, plansIn, planSaid, refusalOf, numberAt, lineCount, GoodTo, FirstBad, PlanOrdered, PlanApart, GoodLines}
 use Rattle.asm.proofs.Reached.{drop-none, drop-within, Reached, plan-number, word-number, next, first-bad}
 use Rattle.asm.proofs.Ranges.{Ranged, fine, unordered, meeting, ranged-cases}
 use Rattle.asm.proofs.Proper.{Proper, line-proper}
@@ -31,9 +31,9 @@ use Rattle.asm.proofs.Proper.{Proper, line-proper}
 pub data Outcome (P : Profile) (ls : List Line) (r : Sheet) : Type 0 where
   bad : (k n : ℕ) → FirstBad P ls k n → r ≡ refused-at n (k + 1) → Outcome P ls r
   miscounted : GoodTo P ls (lineCount P) → (length ls ≡ lineCount P → ⊥) → r ≡ refused-at 23 0 → Outcome P ls r
-  out-of-order : GoodLines P ls → (Ordered P (planSaid P ls) → ⊥) → r ≡ refused-at 11 0 → Outcome P ls r
-  code-meets-table : GoodLines P ls → Ordered P (planSaid P ls) → (Apart P (planSaid P ls) → ⊥) → r ≡ refused-at 12 0 → Outcome P ls r
-  is-read : GoodLines P ls → Ordered P (planSaid P ls) → Apart P (planSaid P ls) → (p : Plan) (ws : List ℕ) → r ≡ program p ws → Outcome P ls r
+  out-of-order : GoodLines P ls → (PlanOrdered P (planSaid P ls) → ⊥) → r ≡ refused-at 11 0 → Outcome P ls r
+  code-meets-table : GoodLines P ls → PlanOrdered P (planSaid P ls) → (PlanApart P (planSaid P ls) → ⊥) → r ≡ refused-at 12 0 → Outcome P ls r
+  is-read : GoodLines P ls → PlanOrdered P (planSaid P ls) → PlanApart P (planSaid P ls) → (p : Plan) (ws : List ℕ) → r ≡ program p ws → Outcome P ls r
 
 module _ (P : Profile) (ls : List Line) where
   -- a line has to follow, and none does

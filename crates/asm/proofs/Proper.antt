@@ -10,7 +10,7 @@ use Rattle.grammar.specs.declared.Value.{Value}
 use Rattle.grammar.specs.declared.Value.the-variants.{Number, Malformed, Outside}
 use Rattle.grammar.specs.declared.LineKind.{LineKind}
 use Rattle.grammar.specs.declared.LineKind.the-variants.{Op, Plan, Row, Spare}
-use Rattle.grammar.specs.Form.{Kind, number, word, decision, Pair, Reading, values, refused, readWord, readPair, before, allPairs, unknown, atEnd, decided, followed, readForm}
+use Rattle.grammar.specs.Form.{Kind, number, keyword, decision, Pair, Reading, values, refused, readKeyword, readPair, before, allPairs, unknown, atEnd, decided, followed, readForm}
 use Rattle.grammar.specs.Grammar.{planForm, opNames, opForm, wordForm, named, readOp, readParts, readLine}
 
 abbrev pub Proper : Reading → Type 0
@@ -52,7 +52,7 @@ decided-proper Outside r ps h = unknown-proper 22 ps (omega arith, omega arith)
 followed-proper : (k : Kind) (v : Value) (r : Reading) (ps : List (List ℕ)) → Proper r → Proper (followed k v r ps)
 unfolding followed
 followed-proper (number rs) v r ps h = before-proper v r h
-followed-proper (word ws) v r ps h = before-proper v r h
+followed-proper (keyword ws) v r ps h = before-proper v r h
 followed-proper decision v r ps h = decided-proper v r ps h
 
 form-proper : (fs : List Pair) (ps : List (List ℕ)) → Proper (readForm fs ps)
@@ -70,7 +70,7 @@ named-proper P Outside ps = unknown-proper 21 ps (omega arith, omega arith)
 op-proper : (P : Profile) (ps : List (List ℕ)) → Proper (readOp P ps)
 unfolding readOp
 op-proper P [] = (omega arith, omega arith)
-op-proper P (p ∷ ps) = named-proper P (readWord (opNames P) (valueOf (ascii "op") p)) ps
+op-proper P (p ∷ ps) = named-proper P (readKeyword (opNames P) (valueOf (ascii "op") p)) ps
 
 parts-proper : (P : Profile) (k : LineKind) (ps : List (List ℕ)) → Proper (readParts P k ps)
 unfolding readParts

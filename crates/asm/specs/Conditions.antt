@@ -10,6 +10,7 @@ use lib.ListN.{length, getD}
 use Rattle.text.specs.Bytes.{lineFeed, split}
 use Rattle.word.specs.Profile.{Profile, wordsOf, enginesOf}
 use Rattle.plan.specs.declared.EnginePlan.{EnginePlan}
+use Rattle.plan.specs.declared.EnginePlan.the-variants.{Unused}
 use Rattle.plan.specs.declared.Plan.{Plan}
 use Rattle.plan.specs.declared.Verdict.the-variants.{OutOfOrder, CodeMeetsTable}
 use Rattle.plan.specs.Conditions.{Condition}
@@ -42,7 +43,7 @@ linesOf text = linesIn (split lineFeed text)
 -- The plans that n plan lines say, from engine i's on.
 abbrev pub planIn : Reading → EnginePlan
 planIn (values ns) = enginePlanOf ns
-planIn (refused k) = enginePlanOf []
+planIn (refused k) = Unused
 
 abbrev pub plansIn : Profile → ℕ → ℕ → List Line → List EnginePlan
 plansIn P zero i ls = []
@@ -90,11 +91,12 @@ pub record FirstBad (P : Profile) (ls : List Line) (k n : ℕ) : Type 0 where
   pub bad : numberAt P ls k ≡ n
   pub refusal : n ≡ 0 → ⊥
 
-abbrev pub Ordered : Profile → Plan → Type 0
-Ordered P p = (i : ℕ) → Condition P p [] (OutOfOrder i)
+-- Not 11, and not 12.
+abbrev pub PlanOrdered : Profile → Plan → Type 0
+PlanOrdered P p = (i : ℕ) → Condition P p [] (OutOfOrder i)
 
-abbrev pub Apart : Profile → Plan → Type 0
-Apart P p = (i : ℕ) → Condition P p [] (CodeMeetsTable i)
+abbrev pub PlanApart : Profile → Plan → Type 0
+PlanApart P p = (i : ℕ) → Condition P p [] (CodeMeetsTable i)
 
 -- All lines are good, and there are as many as there have to be.
 abbrev pub GoodLines : Profile → List Line → Type 0
@@ -104,10 +106,10 @@ GoodLines P ls = GoodTo P ls (lineCount P) × (length ls ≡ lineCount P)
 pub record Exactly (P : Profile) (text : List ℕ) : Type 0 where
   pub line : (k n : ℕ) → (readSheet P text ≡ refused-at n (k + 1)) ↔ FirstBad P (linesOf text) k n
   pub is23 : (readSheet P text ≡ refused-at 23 0) ↔ (GoodTo P (linesOf text) (lineCount P) × (length (linesOf text) ≡ lineCount P → ⊥))
-  pub is11 : (readSheet P text ≡ refused-at 11 0) ↔ (GoodLines P (linesOf text) × (Ordered P (planSaid P (linesOf text)) → ⊥))
+  pub is11 : (readSheet P text ≡ refused-at 11 0) ↔ (GoodLines P (linesOf text) × (PlanOrdered P (planSaid P (linesOf text)) → ⊥))
   pub is12 :
       (readSheet P text ≡ refused-at 12 0)
-      ↔ (GoodLines P (linesOf text) × Ordered P (planSaid P (linesOf text)) × (Apart P (planSaid P (linesOf text)) → ⊥))
+      ↔ (GoodLines P (linesOf text) × PlanOrdered P (planSaid P (linesOf text)) × (PlanApart P (planSaid P (linesOf text)) → ⊥))
   pub others : (n : ℕ) → readSheet P text ≡ refused-at n 0 → (n ≡ 23) ⊎ ((n ≡ 11) ⊎ (n ≡ 12))
 
 -- 3. The reader's refusals are exactly the paper's.

@@ -42,13 +42,13 @@ fn read_words(text: &[u8], from: usize, plan: Plan, words: &mut [u16]) -> Assemb
     let mut at = from;
     let mut k = 0;
     while k < WORDS {
-        let line = text_bytes::part_at(text, at, LINE_FEED);
-        let end = at + line.len();
-        let number = k as u16 + 4;
+        let part = text_bytes::part_at(text, at, LINE_FEED);
+        let end = at + part.len();
+        let line = k as u16 + 4;
         if end >= text.len() {
-            return unended(line, number);
+            return unended(part, line);
         }
-        match read_word(line, line_kind_at(plan, k as u16), number) {
+        match read_word(part, line_kind_at(plan, k as u16), line) {
             WordRead::Word(w) => words[k] = w,
             WordRead::Refused(r) => return r,
         }

@@ -45,12 +45,12 @@ pub(super) fn read_plan(text: &[u8], at: usize, engine: u16) -> PlanLine
     ensures { λ r. ⌜ ((n : ℕ) (qs : List EnginePlan) (ws : List ℕ) → thenPlans r (now (text .entry)) engine n qs ws ≡ readPlans LP5523 (suc n) engine qs (linesFrom at (now (text .entry)))) ⌝ }
     ensures { λ r. ⌜ Within r (now (text .entry)) ⌝ }
 {
-    let line = text_bytes::part_at(text, at, LINE_FEED);
-    let end = at + line.len();
+    let part = text_bytes::part_at(text, at, LINE_FEED);
+    let end = at + part.len();
     if end >= text.len() {
-        return PlanLine::Refused(unended(line, engine));
+        return PlanLine::Refused(unended(part, engine));
     }
-    match line_reader::read_line(line, LineKind::Plan(engine)) {
+    match line_reader::read_line(part, LineKind::Plan(engine)) {
         LineRead::Read(v) => PlanLine::Plan {
             plan: engine_plan(v),
             next: end + 1,

@@ -18,18 +18,18 @@ use Rattle.text.proofs.Numerals.{read-parts}
 use Rattle.word.specs.Field.{Range, inside, _to_, upto}
 use Rattle.grammar.specs.declared.Value.{Value}
 use Rattle.grammar.specs.declared.Value.the-variants.{Number, Malformed, Outside}
-use Rattle.grammar.specs.Form.{Kind, number, word, decision, Pair, held, readWord, readValue}
+use Rattle.grammar.specs.Form.{Kind, number, keyword, decision, Pair, held, readKeyword, readValue}
 use Rattle.grammar.specs.Tables.{numberKinds, kindCount, decisionKind, pairCount, kindAt, rangesIn, rangesAt, pairAt, stopsAt}
 use Rattle.grammar.proofs.Value as values
-use Rattle.grammar.proofs.Tables.{low, high, alsoLow, alsoHigh, rangeTable, range-again, wordTable, kind-is, answers-are, pairKind, pair-is, pair-kinds}
+use Rattle.grammar.proofs.Tables.{low, high, alsoLow, alsoHigh, rangeTable, range-again, keywordTable, kind-is, answers-are, pairKind, pair-is, pair-kinds}
 
 -- ---- the ranges of a kind
 
 pub kind-number : (k : ℕ) → k < numberKinds → kindAt k ≡ number (rangeTable k)
 kind-number k h = kind-is k (omega arith) ∙ rw (lt-ltb k numberKinds h)
 
-kind-words : (k : ℕ) → numberKinds ≤ k → k < kindCount → kindAt k ≡ cond (ltb k decisionKind) (word (wordTable (k - numberKinds))) decision
-kind-words k l h = kind-is k h ∙ rw (le-ltb k numberKinds l)
+kind-keywords : (k : ℕ) → numberKinds ≤ k → k < kindCount → kindAt k ≡ cond (ltb k decisionKind) (keyword (keywordTable (k - numberKinds))) decision
+kind-keywords k l h = kind-is k h ∙ rw (le-ltb k numberKinds l)
 
 -- whether a number lies in a range
 abbrev lies : ℕ → ℕ → ℕ → Bool
@@ -148,17 +148,17 @@ module _ (k : ℕ) (v : List ℕ) where
       go : (x : Kind) → x ≡ number (rangeTable k) → readValue x v ≡ held (rangesIn x) (readNumber 65535 v)
       go x e = ap (λ (y : Kind). readValue y v) e ∙ ap (λ (y : Kind). held (rangesIn y) (readNumber 65535 v)) (sym e)
 
-  -- yes and no are words too
-  pub word-value : numberKinds ≤ k → k < kindCount → readValue (kindAt k) v ≡ readWord (wordTable (k - numberKinds)) v
+  -- yes and no are keywords too
+  pub keyword-value : numberKinds ≤ k → k < kindCount → readValue (kindAt k) v ≡ readKeyword (keywordTable (k - numberKinds)) v
   unfolding readValue
-  word-value l h = ap (λ (x : Kind). readValue x v) (kind-words k l h) ∙ go (ltb k decisionKind) refl
+  keyword-value l h = ap (λ (x : Kind). readValue x v) (kind-keywords k l h) ∙ go (ltb k decisionKind) refl
     where
-      go : (t : Bool) → ltb k decisionKind ≡ t → readValue (cond t (word (wordTable (k - numberKinds))) decision) v ≡ readWord (wordTable (k - numberKinds)) v
+      go : (t : Bool) → ltb k decisionKind ≡ t → readValue (cond t (keyword (keywordTable (k - numberKinds))) decision) v ≡ readKeyword (keywordTable (k - numberKinds)) v
       go true q = refl
       go false q =
           let m = ltb-false k decisionKind q in
           let z : 3 ≡ k - numberKinds = omega arith in
-          ap (λ (ws : List (List ℕ)). readWord ws v) (answers-are ∙ ap wordTable z)
+          ap (λ (ws : List (List ℕ)). readKeyword ws v) (answers-are ∙ ap keywordTable z)
 
 -- ---- where a yes or no lets no pair follow
 
@@ -170,8 +170,8 @@ goes-on k v h n = go (ltb k numberKinds) refl
     go : (t : Bool) → ltb k numberKinds ≡ t → stopsAt (kindAt k) v ≡ false
     go true q = ap (λ (x : Kind). stopsAt x v) (kind-number k (ltb-true k numberKinds q))
     go false q =
-        ap (λ (x : Kind). stopsAt x v) (kind-words k (ltb-false k numberKinds q) h)
-        ∙ ap (λ (t : Bool). stopsAt (cond t (word (wordTable (k - numberKinds))) decision) v) (lt-ltb k decisionKind (omega arith))
+        ap (λ (x : Kind). stopsAt x v) (kind-keywords k (ltb-false k numberKinds q) h)
+        ∙ ap (λ (t : Bool). stopsAt (cond t (keyword (keywordTable (k - numberKinds))) decision) v) (lt-ltb k decisionKind (omega arith))
 
 decision-is : kindAt decisionKind ≡ decision
 decision-is = kind-is decisionKind (omega arith)

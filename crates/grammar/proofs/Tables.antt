@@ -13,7 +13,7 @@ use mir.Val.{Fits}
 use Rattle.text.specs.Bytes.{ascii}
 use Rattle.word.specs.Field.{Range, _to_}
 use Rattle.word.specs.Profile.{LP5523}
-use Rattle.grammar.specs.Form.{Kind, number, word, decision, answers, Pair}
+use Rattle.grammar.specs.Form.{Kind, number, keyword, decision, answers, Pair}
 use Rattle.grammar.specs.Grammar.{OpLine, opLines, opNames, opForm, planPairs}
 use Rattle.grammar.specs.Tables.{opCount, nameCount, byteCount, numberKinds, kindCount, decisionKind, pairCount, formCount, keys, names, kinds, kindAt, forms, formOf, pairs, pairAt}
 
@@ -41,13 +41,13 @@ alsoLow = 0 ∷ 1 ∷ 0 ∷ 0 ∷ 0 ∷ 0 ∷ 0 ∷ 16 ∷ 32 ∷ []
 unfoldable pub alsoHigh : List ℕ
 alsoHigh = 1 ∷ 31 ∷ 255 ∷ 31 ∷ 63 ∷ 127 ∷ 95 ∷ 16 ∷ 39 ∷ []
 
--- WORD_FIRST
-unfoldable pub wordFirst : List ℕ
-wordFirst = 31 ∷ 33 ∷ 33 ∷ 37 ∷ []
+-- KEYWORD_FIRST
+unfoldable pub keywordFirst : List ℕ
+keywordFirst = 31 ∷ 33 ∷ 33 ∷ 37 ∷ []
 
--- WORD_COUNT
-unfoldable pub wordCount : List ℕ
-wordCount = 2 ∷ 4 ∷ 3 ∷ 2 ∷ []
+-- KEYWORD_COUNT
+unfoldable pub keywordCount : List ℕ
+keywordCount = 2 ∷ 4 ∷ 3 ∷ 2 ∷ []
 
 -- PAIR_KEY
 unfoldable pub pairKey : List ℕ
@@ -156,12 +156,12 @@ rangeTable k =
     (getD low k 0 to getD high k 0 ∷ [])
     (getD low k 0 to getD high k 0 ∷ getD alsoLow k 0 to getD alsoHigh k 0 ∷ [])
 
--- The words of the kind numberKinds + k.
-abbrev pub wordTable : ℕ → List (List ℕ)
-wordTable k = take (getD wordCount k 0) (drop (getD wordFirst k 0) names)
+-- The keywords of the kind numberKinds + k.
+abbrev pub keywordTable : ℕ → List (List ℕ)
+keywordTable k = take (getD keywordCount k 0) (drop (getD keywordFirst k 0) names)
 
 abbrev pub kindTable : ℕ → Kind
-kindTable k = cond (ltb k numberKinds) (number (rangeTable k)) (cond (ltb k decisionKind) (word (wordTable (k - numberKinds))) decision)
+kindTable k = cond (ltb k numberKinds) (number (rangeTable k)) (cond (ltb k decisionKind) (keyword (keywordTable (k - numberKinds))) decision)
 
 -- How far apart the ends of the two ranges are, where they begin alike.
 abbrev apart : ℕ → ℕ
@@ -178,29 +178,29 @@ range-again k h e =
     omega (arith, subst (λ (t : Bool). cond t f 0 ≤ 0) e (none-apart k h))
 
 kinds-are : kinds ≡ tabulate kindCount kindTable
-unfolding kinds low high alsoLow alsoHigh wordCount wordFirst names opNames keys
+unfolding kinds low high alsoLow alsoHigh keywordCount keywordFirst names opNames keys
 kinds-are = refl
 
 pub kind-is : (k : ℕ) → k < kindCount → kindAt k ≡ kindTable k
 unfolding kindAt
 kind-is = tabled kinds kindCount kindTable decision kinds-are
 
--- The answers, yes and no, are the words of the last kind.
-pub answers-are : answers ≡ wordTable 3
-unfolding wordCount wordFirst names opNames keys
+-- The answers, yes and no, are the keywords of the last kind.
+pub answers-are : answers ≡ keywordTable 3
+unfolding keywordCount keywordFirst names opNames keys
 answers-are = refl
 
-pub words-within : (k : ℕ) → k < 4 → getD wordFirst k 0 + getD wordCount k 0 ≤ nameCount
-unfolding wordFirst wordCount
-words-within = inOrder 4 (λ k. getD wordFirst k 0 + getD wordCount k 0) (λ k. nameCount) tt
+pub keywords-within : (k : ℕ) → k < 4 → getD keywordFirst k 0 + getD keywordCount k 0 ≤ nameCount
+unfolding keywordFirst keywordCount
+keywords-within = inOrder 4 (λ k. getD keywordFirst k 0 + getD keywordCount k 0) (λ k. nameCount) tt
 
-pub first-fits : (k : ℕ) → k < 4 → Fits w64 (getD wordFirst k 0)
-unfolding wordFirst
-first-fits k h = fits-under w64 _ nameCount (inOrder 4 (λ k. suc (getD wordFirst k 0)) (λ k. nameCount) tt k h) tt
+pub first-fits : (k : ℕ) → k < 4 → Fits w64 (getD keywordFirst k 0)
+unfolding keywordFirst
+first-fits k h = fits-under w64 _ nameCount (inOrder 4 (λ k. suc (getD keywordFirst k 0)) (λ k. nameCount) tt k h) tt
 
-pub count-fits : (k : ℕ) → k < 4 → Fits w64 (getD wordCount k 0)
-unfolding wordCount
-count-fits k h = fits-under w64 _ nameCount (inOrder 4 (λ k. suc (getD wordCount k 0)) (λ k. nameCount) tt k h) tt
+pub count-fits : (k : ℕ) → k < 4 → Fits w64 (getD keywordCount k 0)
+unfolding keywordCount
+count-fits k h = fits-under w64 _ nameCount (inOrder 4 (λ k. suc (getD keywordCount k 0)) (λ k. nameCount) tt k h) tt
 
 -- ---- pairs and forms
 

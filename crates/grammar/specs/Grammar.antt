@@ -10,7 +10,7 @@ use Rattle.grammar.specs.declared.Value.{Value}
 use Rattle.grammar.specs.declared.Value.the-variants.{Number, Malformed, Outside}
 use Rattle.grammar.specs.declared.LineKind.{LineKind}
 use Rattle.grammar.specs.declared.LineKind.the-variants.{Op, Plan, Row, Spare}
-use Rattle.grammar.specs.Form.{number, word, decision, Pair, Reading, refused, before, unknown, readWord, readForm, writeForm}
+use Rattle.grammar.specs.Form.{number, keyword, decision, Pair, Reading, refused, before, unknown, readKeyword, readForm, writeForm}
 
 -- "Variables are written A, B, C, D"; D can't be written to.
 abbrev pub variables : List (List ℕ)
@@ -22,10 +22,10 @@ targets = ascii "A" ∷ ascii "B" ∷ ascii "C" ∷ []
 abbrev pub directions : List (List ℕ)
 directions = ascii "up" ∷ ascii "down" ∷ []
 
--- A pair whose value is one of some words, or yes or no.
+-- A pair whose value is one of some keywords, or yes or no.
 infix 70 _among_
 abbrev pub _among_ : String → List (List ℕ) → Pair
-k among ws = record { key = ascii k; kind = word ws }
+k among ws = record { key = ascii k; kind = keyword ws }
 
 abbrev pub asks : String → Pair
 asks k = record { key = ascii k; kind = decision }
@@ -111,7 +111,7 @@ named P Outside ps = unknown 21 ps
 
 unfoldable pub readOp : Profile → List (List ℕ) → Reading
 readOp P [] = refused 20
-readOp P (p ∷ ps) = named P (readWord (opNames P) (valueOf (ascii "op") p)) ps
+readOp P (p ∷ ps) = named P (readKeyword (opNames P) (valueOf (ascii "op") p)) ps
 
 -- The values of a line of one of the kinds.
 unfoldable pub readParts : Profile → LineKind → List (List ℕ) → Reading

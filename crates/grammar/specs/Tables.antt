@@ -1,5 +1,5 @@
--- The grammar as the tables that the functions go by, and what they answer from them. That the tables are the grammar's is proved; nothing
--- here has to be believed.
+-- The grammar as the tables that the functions go by, and what they answer from them. That the tables are the grammar's is proved. Contracts
+-- of public functions speak of `valuesOf`, `listOf` and `lineReadOf`; nothing else here has to be believed.
 use Prim.Native.Nat.{ℕ, min}
 use mathlib.Core.Bool.{Bool, true, false, not, cond}
 use mathlib.Core.List.{List, [], _∷_, _++_, map}
@@ -13,7 +13,7 @@ use Rattle.grammar.specs.declared.Value.the-variants.{Number, Malformed,
 use Rattle.grammar.specs.declared.Values.{Values}
 use Rattle.grammar.specs.declared.LineRead.{LineRead}
 use Rattle.grammar.specs.declared.LineRead.the-variants.{Read, Refused}
-use Rattle.grammar.specs.Form.{Kind, number, word, decision, answers, Pair, Reading, values, refused, before, atEnd, unknown}
+use Rattle.grammar.specs.Form.{Kind, number, keyword, decision, answers, Pair, Reading, values, refused, before, atEnd, unknown}
 use Rattle.grammar.specs.Grammar.{OpLine, opLines, opNames, directions, variables, targets, planPairs}
 
 -- How many entries the tables have: operations, names, the bytes of all names, kinds of numbers, all kinds, pairs, forms.
@@ -45,7 +45,7 @@ decisionKind = 12
 unfoldable pub keys : List (List ℕ)
 keys = ascii "prescale" ∷ ascii "time" ∷ ascii "dir" ∷ ascii "count" ∷ ascii "value" ∷ ascii "from" ∷ ascii "loops" ∷ ascii "step" ∷ ascii "skip" ∷ ascii "left" ∷ ascii "right" ∷ ascii "to" ∷ ascii "address" ∷ ascii "output" ∷ ascii "int" ∷ ascii "reset" ∷ ascii "wait" ∷ ascii "send" ∷ ascii "use" ∷ ascii "first" ∷ ascii "last" ∷ ascii "table" ∷ ascii "top" ∷ ascii "bottom" ∷ []
 
--- Every name in a sheet: operations, words, keys.
+-- Every name in a sheet: operations, keywords, keys.
 unfoldable pub names : List (List ℕ)
 names = opNames LP5523 ++ (directions ++ (variables ++ (answers ++ keys)))
 
@@ -60,9 +60,9 @@ kinds =
     number (rangesOf LP5523 address) ∷
     number (rangesOf LP5523 output) ∷
     number (rangesOf LP5523 triggers) ∷
-    word directions ∷
-    word variables ∷
-    word targets ∷
+    keyword directions ∷
+    keyword variables ∷
+    keyword targets ∷
     decision ∷ []
 
 unfoldable pub kindAt : ℕ → Kind
@@ -71,7 +71,7 @@ kindAt k = getD kinds k decision
 -- The ranges of a kind of numbers.
 abbrev pub rangesIn : Kind → List Range
 rangesIn (number rs) = rs
-rangesIn (word ws) = []
+rangesIn (keyword ws) = []
 rangesIn decision = []
 
 unfoldable pub rangesAt : ℕ → List Range
@@ -99,7 +99,7 @@ formOf k = getD forms k []
 -- Whether the pairs after a value are left out.
 unfoldable pub stopsAt : Kind → Value → Bool
 stopsAt (number rs) v = false
-stopsAt (word ws) v = false
+stopsAt (keyword ws) v = false
 stopsAt decision (Number n) = not (eqb n 0)
 stopsAt decision Malformed = true
 stopsAt decision Outside = true

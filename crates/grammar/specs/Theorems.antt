@@ -10,13 +10,13 @@ use Rattle.word.specs.Profile.{Profile}
 use Rattle.word.specs.Field.{inside}
 use Rattle.grammar.specs.declared.LineKind.{LineKind}
 use Rattle.grammar.specs.declared.LineKind.the-variants.{Op, Plan, Row, Spare}
-use Rattle.grammar.specs.Form.{Kind, number, word, decision, answers, Pair, values}
+use Rattle.grammar.specs.Form.{Kind, number, keyword, decision, answers, Pair, values}
 use Rattle.grammar.specs.Grammar.{opLines, opForm, planForm, wordForm, readLine, writeLine}
 
 -- Whether a number can be written as a value of a kind.
 abbrev pub fitsKind : Kind → ℕ → Bool
 fitsKind (number rs) n = leb n 65535 && inside rs n
-fitsKind (word ws) n = ltb n (length ws)
+fitsKind (keyword ws) n = ltb n (length ws)
 fitsKind decision n = ltb n (length answers)
 
 abbrev pub isEmpty : List ℕ → Bool
@@ -26,7 +26,7 @@ isEmpty (n ∷ ns) = false
 -- Whether values fit after one: r says whether they fit the rest of the form; after a no there are none.
 abbrev pub fitsAfter : Kind → ℕ → Bool → List ℕ → Bool
 fitsAfter (number rs) n r ns = r
-fitsAfter (word ws) n r ns = r
+fitsAfter (keyword ws) n r ns = r
 fitsAfter decision n r ns = cond (eqb n 0) r (isEmpty ns)
 
 -- Whether values fit a form, one for each pair up to the line's end.

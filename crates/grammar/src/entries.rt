@@ -8,7 +8,7 @@ const NAME_COUNT: usize = 63;
 
 const NAME_BYTES: usize = 331;
 
-// The names in a sheet, one after the other: operations, the words of values, keys.
+// The names in a sheet, one after the other: operations, the keywords of values, keys.
 pub const NAMES: [u8; NAME_BYTES] = *b"rstrampwaitsetramp-varset-varbranch-varjnejljgejeldadd\
 subadd-varsub-varmux-map-startmux-ld-endmux-ld-startmux-ld-addrmux-map-addr\
 mux-clrmux-selmux-map-nextmux-ld-nextmux-map-prevmux-ld-prevbranchendinttrigger\
@@ -84,7 +84,7 @@ pub const NAME_AT: [u16; NAME_COUNT + 1] = [
     NAME_BYTES as u16,
 ];
 
-// The places of the words of values and of the keys among the names.
+// The places of the keywords of values and of the keys among the names.
 const UP: u8 = OPS as u8;
 
 const A: u8 = UP + 2;
@@ -139,7 +139,7 @@ const TOP: u8 = TABLE + 1;
 
 const BOTTOM: u8 = TOP + 1;
 
-// The kinds of values: first those of numbers, then those of words, the last a yes or no.
+// The kinds of values: first those of numbers, then those of keywords, the last a yes or no.
 const FLAGS: u8 = 0;
 
 const TIMES: u8 = FLAGS + 1;
@@ -166,7 +166,7 @@ const TARGETS: u8 = VARIABLES + 1;
 
 pub const DECISION: u8 = TARGETS + 1;
 
-// The kinds below this one are of numbers, the others of words.
+// The kinds below this one are of numbers, the others of keywords.
 pub const NUMBERS: usize = DIRECTIONS as usize;
 
 // A number lies from LOW to HIGH or from ALSO_LOW to ALSO_HIGH; a kind with one range has it twice.
@@ -178,10 +178,10 @@ pub const ALSO_LOW: [u16; NUMBERS] = [0, 1, 0, 0, 0, 0, 0, 16, 32];
 
 pub const ALSO_HIGH: [u16; NUMBERS] = [1, 31, 255, 31, 63, 127, 95, 16, 39];
 
-// A word is one of so many names from this one on.
-pub const WORD_FIRST: [u8; 4] = [UP, A, A, YES];
+// A keyword is one of so many names from this one on.
+pub const KEYWORD_FIRST: [u8; 4] = [UP, A, A, YES];
 
-pub const WORD_COUNT: [u8; 4] = [2, 4, 3, 2];
+pub const KEYWORD_COUNT: [u8; 4] = [2, 4, 3, 2];
 
 // The form of the plan lines.
 pub const PLAN_FORM: usize = OPS;

@@ -1,13 +1,13 @@
-// Values, read by their kinds: numbers in their ranges, and words.
-use super::words::read_word;
+// Values, read by their kinds: numbers in their ranges, and keywords.
+use super::keywords::read_keyword;
 use grammar::ALSO_HIGH;
 use grammar::ALSO_LOW;
 use grammar::HIGH;
+use grammar::KEYWORD_COUNT;
+use grammar::KEYWORD_FIRST;
 use grammar::LOW;
 use grammar::NUMBERS;
 use grammar::Value;
-use grammar::WORD_COUNT;
-use grammar::WORD_FIRST;
 use text::Decimal;
 ghost use mathlib.Core.List.{[]};
 ghost use mathlib.Core.Path.{_≡_};
@@ -75,5 +75,5 @@ pub(super) fn read_value(v: &[u8], kind: usize) -> Value
         return number_of(v, kind);
     }
     let k = kind - NUMBERS;
-    read_word(v, WORD_FIRST[k] as usize, WORD_COUNT[k] as usize)
+    read_keyword(v, KEYWORD_FIRST[k] as usize, KEYWORD_COUNT[k] as usize)
 }

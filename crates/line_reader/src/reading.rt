@@ -1,10 +1,10 @@
 // A line, read.
+use super::keywords::read_keyword;
 use super::kinds::read_number;
 use super::pairs::read_form;
 use super::sequence::before;
 use super::shapes::at_end;
 use super::shapes::stopped;
-use super::words::read_word;
 use grammar::LineKind;
 use grammar::LineRead;
 use grammar::OPS;
@@ -26,7 +26,7 @@ fn read_op(line: &[u8]) -> LineRead
 {
     let part = text_bytes::part_at(line, 0, SPACE);
     let next = part.len() + 1;
-    let op = read_word(text_bytes::value_of(part, b"op"), 0, OPS);
+    let op = read_keyword(text_bytes::value_of(part, b"op"), 0, OPS);
     let Value::Number(o) = op else {
         return stopped(line, next, op, 21);
     };

@@ -41,7 +41,7 @@ pub(super) fn at_end(line: &[u8], at: usize) -> LineRead
     })
 }
 
-// After an unknown word only the shape of the pairs is judged.
+// After an unknown keyword only the shape of the pairs is judged.
 fn unknown(line: &[u8], at: usize, number: u16) -> LineRead
     ensures { λ r. ⌜ r ≡ lineReadOf (unknown number (partsFrom at (now (line .entry)))) ⌝ }
 {
@@ -51,7 +51,7 @@ fn unknown(line: &[u8], at: usize, number: u16) -> LineRead
     LineRead::Refused(20)
 }
 
-// After a word that lets no form go on: it is unknown, or no word, or the last of its line.
+// After a value with which a form ends: an unknown keyword, no keyword, or a no.
 pub(super) fn stopped(line: &[u8], at: usize, value: Value, number: u16) -> LineRead
     ensures { λ r. ⌜ r ≡ lineReadOf (stoppedBy number value (partsFrom at (now (line .entry)))) ⌝ }
 {

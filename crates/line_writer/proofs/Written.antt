@@ -16,45 +16,44 @@ use Rattle.text.specs.Put.{lastPlace, Put}
 use Rattle.text.proofs.Puts.{put-append, put-length, SoFar}
 use Rattle.text.proofs.Turns.{by-test}
 use Rattle.word.specs.Profile.{LP5523}
-use Rattle.grammar.specs.declared.Value.{Value}
 use Rattle.grammar.specs.declared.Value.the-variants.{Number}
-use Rattle.grammar.specs.Form.{Kind, number, word, decision, answers, Pair, writeValue, writePair, continued, writeForm}
+use Rattle.grammar.specs.Form.{Kind, number, keyword, decision, answers, Pair, writeValue, writePair, continued, writeForm}
 use Rattle.grammar.specs.Grammar.{OpLine, opLines, opNames, opForm, planPairs, directions, variables, number16, wordForm, writeOp}
-use Rattle.grammar.specs.Tables.{opCount, numberKinds, kindCount, decisionKind, pairCount, formCount, keys, names, kindAt, pairs, pairAt, formOf, stopsAt}
-use Rattle.grammar.proofs.Ranges.{kind-number, stops-not}
-use Rattle.grammar.proofs.Tables.{pairKind, formAt, wordTable, formTable, wordCount, wordFirst, kind-is, answers-are, pairs-length, op-form, plan-form, form-is}
+use Rattle.grammar.specs.Tables.{opCount, numberKinds, kindCount, decisionKind, pairCount, keys, names, kindAt, pairs, pairAt, stopsAt}
+use Rattle.grammar.proofs.Ranges.{kind-number}
+use Rattle.grammar.proofs.Tables.{keywordTable, formTable, keywordCount, keywordFirst, kind-is, answers-are, pairs-length, op-form, plan-form, form-is}
 
 -- ---- the kinds of values
 
-word-kind : (k : ℕ) → numberKinds ≤ k → k < decisionKind → kindAt k ≡ word (wordTable (k - numberKinds))
-word-kind k h l = kind-is k (omega arith) ∙ rw (le-ltb k numberKinds h, lt-ltb k decisionKind l)
+keyword-kind : (k : ℕ) → numberKinds ≤ k → k < decisionKind → kindAt k ≡ keyword (keywordTable (k - numberKinds))
+keyword-kind k h l = kind-is k (omega arith) ∙ rw (le-ltb k numberKinds h, lt-ltb k decisionKind l)
 
 pub number-text : (k n : ℕ) → k < numberKinds → writeValue (kindAt k) n ≡ decimalOf n
 unfolding writeValue
 number-text k n h = ap (λ (q : Kind). writeValue q n) (kind-number k h)
 
--- a yes or no is one of two words, like any other
-word-text : (k n : ℕ) → numberKinds ≤ k → k < kindCount → writeValue (kindAt k) n ≡ getD (wordTable (k - numberKinds)) n []
+-- a yes or no is one of two keywords, like any other
+keyword-text : (k n : ℕ) → numberKinds ≤ k → k < kindCount → writeValue (kindAt k) n ≡ getD (keywordTable (k - numberKinds)) n []
 unfolding writeValue
-word-text k n h l =
+keyword-text k n h l =
     by-test (ltb k decisionKind)
-    (λ e. ap (λ (q : Kind). writeValue q n) (word-kind k h (ltb-true k decisionKind e)))
+    (λ e. ap (λ (q : Kind). writeValue q n) (keyword-kind k h (ltb-true k decisionKind e)))
     (λ e.
     let g = ltb-false k decisionKind e in
     let f : decisionKind ≡ k = omega arith in
-    subst (λ (j : ℕ). writeValue (kindAt j) n ≡ getD (wordTable (j - numberKinds)) n []) f
+    subst (λ (j : ℕ). writeValue (kindAt j) n ≡ getD (keywordTable (j - numberKinds)) n []) f
     (ap (λ (q : Kind). writeValue q n) (kind-is decisionKind (omega arith)) ∙ ap (λ (ws : List (List ℕ)). getD ws n []) answers-are))
 
--- the word n of a kind is the name n places after its first, where it has so many
-pub word-name : (k n : ℕ) → numberKinds ≤ k → k < kindCount → n < getD wordCount (k - numberKinds) 0 → writeValue (kindAt k) n ≡ getD names (getD wordFirst (k - numberKinds) 0 + n) []
-word-name k n h l m =
-    word-text k n h l
-    ∙ getD-take (getD wordCount (k - numberKinds) 0) (drop (getD wordFirst (k - numberKinds) 0) names) n [] m
-    ∙ getD-drop (getD wordFirst (k - numberKinds) 0) names n []
+-- the keyword n of a kind is the name n places after its first, where it has so many
+pub keyword-name : (k n : ℕ) → numberKinds ≤ k → k < kindCount → n < getD keywordCount (k - numberKinds) 0 → writeValue (kindAt k) n ≡ getD names (getD keywordFirst (k - numberKinds) 0 + n) []
+keyword-name k n h l m =
+    keyword-text k n h l
+    ∙ getD-take (getD keywordCount (k - numberKinds) 0) (drop (getD keywordFirst (k - numberKinds) 0) names) n [] m
+    ∙ getD-drop (getD keywordFirst (k - numberKinds) 0) names n []
 
-pub word-none : (k n : ℕ) → numberKinds ≤ k → k < kindCount → getD wordCount (k - numberKinds) 0 ≤ n → writeValue (kindAt k) n ≡ []
-word-none k n h l m =
-    word-text k n h l ∙ List·getD-eq-default (wordTable (k - numberKinds)) [] (simp length-take (omega arith))
+pub keyword-none : (k n : ℕ) → numberKinds ≤ k → k < kindCount → getD keywordCount (k - numberKinds) 0 ≤ n → writeValue (kindAt k) n ≡ []
+keyword-none k n h l m =
+    keyword-text k n h l ∙ List·getD-eq-default (keywordTable (k - numberKinds)) [] (simp length-take (omega arith))
 
 -- ---- where a line ends
 
@@ -62,13 +61,13 @@ word-none k n h l m =
 pub keeps-on : (k : Kind) (n : ℕ) (ps : List (List ℕ)) → stopsAt k (Number n) ≡ false → continued k n ps ≡ ps
 unfolding stopsAt continued
 keeps-on (number rs) n ps e = refl
-keeps-on (word ws) n ps e = refl
+keeps-on (keyword ws) n ps e = refl
 keeps-on decision n ps e = rw (not-false (eqb n 0) e)
 
 pub goes-no-further : (k : Kind) (n : ℕ) (ps : List (List ℕ)) → stopsAt k (Number n) ≡ true → continued k n ps ≡ []
 unfolding stopsAt continued
 goes-no-further (number rs) n ps e = absurd (subst T (sym e) tt)
-goes-no-further (word ws) n ps e = absurd (subst T (sym e) tt)
+goes-no-further (keyword ws) n ps e = absurd (subst T (sym e) tt)
 goes-no-further decision n ps e = rw (not-true (eqb n 0) e)
 
 -- ---- the pairs of a form

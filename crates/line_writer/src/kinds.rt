@@ -1,8 +1,8 @@
-// Values, written by their kinds: numbers and words.
+// Values, written by their kinds: numbers and keywords.
 use super::names::put_name;
+use grammar::KEYWORD_COUNT;
+use grammar::KEYWORD_FIRST;
 use grammar::NUMBERS;
-use grammar::WORD_COUNT;
-use grammar::WORD_FIRST;
 ghost use Prim.Native.Nat.{_<_};
 ghost use Rattle.text.specs.Put.{Put};
 ghost use Rattle.grammar.specs.Form.{writeValue};
@@ -17,8 +17,8 @@ pub(super) fn put_value(out: &mut [u8], at: usize, kind: usize, n: u16) -> usize
     }
     let k = kind - NUMBERS;
     let place = n as usize;
-    if place < WORD_COUNT[k] as usize {
-        return put_name(out, at, WORD_FIRST[k] as usize + place);
+    if place < KEYWORD_COUNT[k] as usize {
+        return put_name(out, at, KEYWORD_FIRST[k] as usize + place);
     }
     at
 }

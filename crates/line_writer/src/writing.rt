@@ -77,7 +77,7 @@ fn put_op(out: &mut [u8], at: usize, v: Values) -> usize
     put_pairs(out, name, FORM_AT[op] as usize, FORM_AT[op + 1] as usize, v)
 }
 
-// A line of one pair, whose value is a number of 16 bits.
+// A pair whose value is a number of 16 bits.
 fn put_single(out: &mut [u8], at: usize, key: &[u8], n: u16) -> usize
     ensures { λ r. ⌜ Put (now (out .entry)) (now (out .exit)) (writePair (number16 (now (key .entry))) n) at r ⌝ }
 {
@@ -90,12 +90,12 @@ fn put_plan(out: &mut [u8], at: usize, v: Values) -> usize
     ensures { λ r. ⌜ Put (now (out .entry)) (now (out .exit)) (join space (writePair (number16 (ascii "engine")) (v .a) ∷ writeForm (planPairs LP5523) (drop 1 (listOf v)))) at r ⌝ }
 {
     let engine = put_single(out, at, b"engine", v.a);
-    let form = FORM_AT;
+    let starts = FORM_AT;
     put_pairs(
         out,
         engine,
-        form[PLAN_FORM] as usize,
-        form[PLAN_FORM + 1] as usize,
+        starts[PLAN_FORM] as usize,
+        starts[PLAN_FORM + 1] as usize,
         v,
     )
 }

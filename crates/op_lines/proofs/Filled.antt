@@ -12,7 +12,7 @@ use Rattle.word.specs.Profile.{Profile, LP5523}
 use Rattle.word.specs.declared.Word.the-variants.{Undefined}
 use Rattle.parts.specs.declared.Parts.{Parts}
 use Rattle.parts.specs.Parts.{parts, signOf}
-use Rattle.grammar.specs.Form.{Kind, number, word, decision, Pair}
+use Rattle.grammar.specs.Form.{Kind, number, keyword, decision, Pair}
 use Rattle.grammar.specs.Grammar.{opForm}
 use Rattle.grammar.specs.Theorems.{isEmpty, fitsKind, fitsAfter, fitsForm, fitsOp}
 use Rattle.grammar.proofs.Tables.{tabulate}
@@ -24,12 +24,12 @@ use Rattle.op_lines.specs.Lines.{partsIn, opValues}
 -- Where a pair has one of two words, they are the directions: a word keeps its direction, and not the number.
 abbrev taken : Kind → ℕ → ℕ
 taken (number rs) n = n
-taken (word ws) n = cond (eqb (length ws) 2) (signOf (directionOf n)) n
+taken (keyword ws) n = cond (eqb (length ws) 2) (signOf (directionOf n)) n
 taken decision n = n
 
 abbrev after : Kind → ℕ → List ℕ → List ℕ
 after (number rs) n ns = ns
-after (word ws) n ns = ns
+after (keyword ws) n ns = ns
 after decision n ns = cond (eqb n 0) ns []
 
 unfoldable valuesFrom : List Pair → (ℕ → ℕ) → List ℕ
@@ -43,7 +43,7 @@ sign-kept (suc (suc n)) h = absurd (omega arith)
 
 taken-fits : (k : Kind) (n : ℕ) → fitsKind k n ≡ true → taken k n ≡ n
 taken-fits (number rs) n h = refl
-taken-fits (word ws) n h = go (eqb (length ws) 2) refl
+taken-fits (keyword ws) n h = go (eqb (length ws) 2) refl
   where
     go : (b : Bool) → eqb (length ws) 2 ≡ b → cond b (signOf (directionOf n)) n ≡ n
     go true e = let l = ltb-true n (length ws) h in let m = eqb-true (length ws) 2 e in sign-kept n (omega arith)
@@ -52,7 +52,7 @@ taken-fits decision n h = refl
 
 after-fits : (k : Kind) (n : ℕ) (b : Bool) {ms : List ℕ} (ns : List ℕ) → (b ≡ true → ms ≡ ns) → fitsAfter k n b ns ≡ true → after k n ms ≡ ns
 after-fits (number rs) n b ns e h = e h
-after-fits (word ws) n b ns e h = e h
+after-fits (keyword ws) n b ns e h = e h
 after-fits decision n b {ms} ns e h = go (eqb n 0) ns e h
   where
     go : (t : Bool) (ns : List ℕ) → (b ≡ true → ms ≡ ns) → cond t b (isEmpty ns) ≡ true → cond t ms [] ≡ ns

@@ -6,20 +6,20 @@ use grammar::ALSO_HIGH;
 use grammar::ALSO_LOW;
 use grammar::FORM_AT;
 use grammar::HIGH;
+use grammar::KEYWORD_COUNT;
+use grammar::KEYWORD_FIRST;
 use grammar::LOW;
 use grammar::NAME_AT;
 use grammar::NAMES;
 use grammar::NUMBERS;
 use grammar::PAIR_KEY;
 use grammar::PAIR_KIND;
-use grammar::WORD_COUNT;
-use grammar::WORD_FIRST;
 use text_bytes::put_bytes;
 use text_bytes::same;
 ghost use Prim.Native.Nat.{_≤_, _<_};
 
 // The ops come first among the names.
-pub const OPS: u32 = WORD_FIRST[0] as u32;
+pub const OPS: u32 = KEYWORD_FIRST[0] as u32;
 
 // The kinds below this one are of numbers.
 pub const NUMBER_KINDS: u32 = NUMBERS as u32;
@@ -94,10 +94,10 @@ pub(super) fn words_of(kind: u32) -> Stretch
     requires { ⌜ 9 ≤ kind ⌝ }
 {
     let at = (kind - NUMBER_KINDS) as usize;
-    let from = small_at(&WORD_FIRST, at);
+    let from = small_at(&KEYWORD_FIRST, at);
     Stretch {
         from,
-        to: from + small_at(&WORD_COUNT, at),
+        to: from + small_at(&KEYWORD_COUNT, at),
     }
 }
 

@@ -29,13 +29,13 @@ returns : tie.Need-returns
 returns c f ws =
     let t = c .before in
     let a = t .before .before .before .args in
-    c .op-word .ensures f ws ∙ ap (λ (x : LineKind). withWord (readWordLine LP5523 x (a .line .now)) (a .number) f) (sym (t .enum-told .given .1))
+    c .op-word .ensures f ws ∙ ap (λ (x : LineKind). withWord (readWordLine LP5523 x (a .part .now)) (a .line) f) (sym (t .enum-told .given .1))
 
 returns-2 : tie.Need-returns-2
 returns-2 c f ws =
     let m = c .before in
     let a = m .before .before .args in
-    c .plain-word .ensures f ws ∙ ap (λ (x : Answer). withWord x (a .number) f) (plain (a .line .now) (a .kind) (m .match .keys2))
+    c .plain-word .ensures f ws ∙ ap (λ (x : Answer). withWord x (a .line) f) (plain (a .part .now) (a .kind) (m .match .keys2))
 
 pub read-word-spec : {M : Type 1} → statement M
 read-word-spec = tie.close (tie.spec (search needs) (search needs) returns (search needs) returns-2)

@@ -1,4 +1,4 @@
--- `line_reader::words::place_of` meets its contract. The invariant: the place among all is the place among those left.
+-- `line_reader::keywords::place_of` meets its contract. The invariant: the place among all is the place among those left.
 use Prim.Native.Nat.{ℕ, _+_, _-_, _≤_, _<_}
 use mathlib.Core.Bool.{true, false}
 use mathlib.Core.List.{[]}
@@ -11,12 +11,12 @@ use Rattle.text.specs.Bytes.{same}
 use Rattle.grammar.specs.Form.{placeOf}
 use Rattle.grammar.specs.Tables.{nameCount, names}
 use Rattle.grammar.proofs.Tables.{in-table, next-in-table, scaled, nameBytes, nameAt, name-starts, name-ends, name-fits, name-is}
-use Rattle.line_reader.proofs.Walk.{wordsFrom, place-step, place-end}
-use Rattle.line_reader.proofs.words.place_of.Statement.{statement}
-use Rattle.line_reader.proofs.words.place_of.Tie as tie
+use Rattle.line_reader.proofs.Walk.{keywordsFrom, place-step, place-end}
+use Rattle.line_reader.proofs.keywords.place_of.Statement.{statement}
+use Rattle.line_reader.proofs.keywords.place_of.Tie as tie
 
 abbrev Inv-loop : tie.InvT-loop
-Inv-loop v first count bytes places i₀ i = (i ≤ count) × (placeOf (wordsFrom first count) 0 v ≡ placeOf (drop i (wordsFrom first count)) i v)
+Inv-loop v first count bytes places i₀ i = (i ≤ count) × (placeOf (keywordsFrom first count) 0 v ≡ placeOf (drop i (keywordsFrom first count)) i v)
 
 abbrev μ-loop : tie.MeasureT-loop
 μ-loop v first count bytes places i₀ i = count - i
