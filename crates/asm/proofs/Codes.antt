@@ -16,9 +16,9 @@ use Rattle.plan.specs.declared.Plan.{Plan}
 use Rattle.plan.specs.Ranges.{enginePlans, planAt, InRange, InCode}
 use Rattle.plan.specs.Tests.{inRange, inCode}
 use Rattle.plan.proofs.Tests.{both}
-use Rattle.grammar.specs.declared.Form.{Form}
-use Rattle.grammar.specs.declared.Form.the-variants.{Op, Row, Spare}
-use Rattle.asm.specs.Places.{inTable, anyHas, formAt}
+use Rattle.grammar.specs.declared.LineKind.{LineKind}
+use Rattle.grammar.specs.declared.LineKind.the-variants.{Op, Row, Spare}
+use Rattle.asm.specs.Places.{inTable, anyHas, lineKindAt}
 
 in-range : (f l : Address) (a : ℕ) → (inRange f l a ≡ true) ↔ InRange f l a
 in-range f l a = both (leb (f .0) a) (leb a (l .0)) (leb-true (f .0) a, le-leb (f .0) a) (leb-true a (l .0), le-leb a (l .0))
@@ -42,16 +42,16 @@ code-any (q ∷ qs) a zero c = ap (λ (b : Bool). b || anyHas inCode qs a) (in-c
 code-any (q ∷ qs) a (suc i) c = ap (λ (b : Bool). inCode q a || b) (code-any qs a i c) ∙ or-true (inCode q a)
 
 module _ (P : Profile) (p : Plan) (a : ℕ) where
-  pub code-form : (i : ℕ) → InCode (planAt P p i) a → formAt P p a ≡ Op
-  unfolding formAt
-  code-form zero c = absurd c
-  code-form (suc i) c =
+  pub code-kind : (i : ℕ) → InCode (planAt P p i) a → lineKindAt P p a ≡ Op
+  unfolding lineKindAt
+  code-kind zero c = absurd c
+  code-kind (suc i) c =
       ap (λ (b : Bool). cond b Op (cond (anyHas inTable (enginePlans P p) a) Row Spare)) (code-any (enginePlans P p) a i c)
 
   -- what holds of an op line at a code address, and of row= and spare= lines, holds of the line there
-  pub by-form : (F : Form → Type 0) → ((i : ℕ) → InCode (planAt P p i) a → F Op) → F Row → F Spare → F (formAt P p a)
-  unfolding formAt
-  by-form F c r s = go (anyHas inCode (enginePlans P p) a) refl (anyHas inTable (enginePlans P p) a)
+  pub by-kind : (F : LineKind → Type 0) → ((i : ℕ) → InCode (planAt P p i) a → F Op) → F Row → F Spare → F (lineKindAt P p a)
+  unfolding lineKindAt
+  by-kind F c r s = go (anyHas inCode (enginePlans P p) a) refl (anyHas inTable (enginePlans P p) a)
     where
       go : (b : Bool) → anyHas inCode (enginePlans P p) a ≡ b → (t : Bool) → F (cond b Op (cond t Row Spare))
       go true e t = let d = any-code (enginePlans P p) a e in c (suc (d .0)) (d .1)

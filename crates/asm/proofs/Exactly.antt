@@ -10,19 +10,11 @@ use lib.Dec.{ltb}
 use borrow.Author.Tests.{ltb-true, ltb-false}
 use Rattle.laws.proofs.Tests.{by-test}
 use Rattle.word.specs.Profile.{Profile}
-use Rattle.asm.specs.Reading.{Sheet, program, refused-at, readSheet}
-use Rattle.asm.specs.Conditions.{Line, linesOf, planSaid, numberAt, lineCount, GoodTo, FirstBad, Ordered, Apart, GoodLines, RefusesExactly}
+use Rattle.asm.specs.Reading.{Sheet, refused-at, readSheet}
+use Rattle.asm.specs.Conditions.{Line, linesOf, planSaid, numberAt, lineCount, GoodTo, FirstBad, GoodLines, RefusesExactly, PlanOrdered, PlanApart}
+use Rattle.asm.specs.Answers.{numberIn, lineIn}
 use Rattle.asm.proofs.Steps.{never}
 use Rattle.asm.proofs.Outcome.{Outcome, bad, miscounted, out-of-order, code-meets-table, is-read, sheet-outcome}
-
--- A refusal's number and line; zeros for a program.
-abbrev numberIn : Sheet → ℕ
-numberIn (program p ws) = 0
-numberIn (refused-at n l) = n
-
-abbrev lineIn : Sheet → ℕ
-lineIn (program p ws) = 0
-lineIn (refused-at n l) = l
 
 -- two answers with different numbers, or in different lines
 other-number : {r s t : Sheet} → r ≡ s → r ≡ t → (numberIn s ≡ numberIn t → ⊥) → ⊥
@@ -85,7 +77,7 @@ module _ (P : Profile) (ls : List Line) where
 
     -- 11
     abbrev Disorder : Type 0
-    Disorder = GoodLines P ls × (Ordered P (planSaid P ls) → ⊥)
+    Disorder = GoodLines P ls × (PlanOrdered P (planSaid P ls) → ⊥)
 
     order-told : Outcome P ls r → r ≡ refused-at 11 0 → Disorder
     order-told (bad j m f e) h = absurd (other-line e h (λ z. omega arith))
@@ -103,7 +95,7 @@ module _ (P : Profile) (ls : List Line) where
 
     -- 12
     abbrev Meeting : Type 0
-    Meeting = GoodLines P ls × Ordered P (planSaid P ls) × (Apart P (planSaid P ls) → ⊥)
+    Meeting = GoodLines P ls × PlanOrdered P (planSaid P ls) × (PlanApart P (planSaid P ls) → ⊥)
 
     meeting-told : Outcome P ls r → r ≡ refused-at 12 0 → Meeting
     meeting-told (bad j m f e) h = absurd (other-line e h (λ z. omega arith))

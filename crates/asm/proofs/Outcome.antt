@@ -16,15 +16,14 @@ use Rattle.plan.specs.declared.EnginePlan.{EnginePlan}
 use Rattle.plan.specs.declared.Plan.{Plan}
 use Rattle.plan.specs.Verdict.{reportOf}
 use Rattle.plan.specs.Check.{checkRangesOf}
-use Rattle.grammar.specs.declared.Form.{Form}
-use Rattle.grammar.specs.declared.Form.the-variants.{Spare}
+use Rattle.grammar.specs.declared.LineKind.the-variants as kind
 use Rattle.grammar.specs.Form.{Reading, values, refused}
 use Rattle.grammar.specs.Grammar.{readLine}
-use Rattle.asm.specs.Places.{formAt}
-use Rattle.asm.specs.PlanLines.{engineForms, planOf, enginePlanOf}
+use Rattle.asm.specs.Places.{lineKindAt}
+use Rattle.asm.specs.PlanLines.{planOf, enginePlanOf}
 use Rattle.asm.specs.Reading.{Sheet, program, refused-at, ranged, closed, withValues, withWord, readWordLine, readWords, readPlans, readSheet}
-use Rattle.asm.specs.Conditions.{Line, whole, cut, linesIn, linesOf, planIn, plansIn, planSaid, refusalOf, numberAt, lineCount, GoodTo, FirstBad, Ordered, Apart, GoodLines}
-use Rattle.asm.proofs.Reached.{drop-none, drop-within, drop-next, Reached, forms-count, before-engines, before-words, plan-number, word-number, next, first-bad}
+use Rattle.asm.specs.Conditions.{Line, whole, cut, linesIn, linesOf, planIn, plansIn, planSaid, refusalOf, numberAt, lineCount, GoodTo, FirstBad, PlanOrdered, PlanApart, GoodLines}
+use Rattle.asm.proofs.Reached.{drop-none, drop-within, Reached, plan-number, word-number, next, first-bad}
 use Rattle.asm.proofs.Ranges.{Ranged, fine, unordered, meeting, ranged-cases}
 use Rattle.asm.proofs.Proper.{Proper, line-proper}
 
@@ -32,9 +31,9 @@ use Rattle.asm.proofs.Proper.{Proper, line-proper}
 pub data Outcome (P : Profile) (ls : List Line) (r : Sheet) : Type 0 where
   bad : (k n : ℕ) → FirstBad P ls k n → r ≡ refused-at n (k + 1) → Outcome P ls r
   miscounted : GoodTo P ls (lineCount P) → (length ls ≡ lineCount P → ⊥) → r ≡ refused-at 23 0 → Outcome P ls r
-  out-of-order : GoodLines P ls → (Ordered P (planSaid P ls) → ⊥) → r ≡ refused-at 11 0 → Outcome P ls r
-  code-meets-table : GoodLines P ls → Ordered P (planSaid P ls) → (Apart P (planSaid P ls) → ⊥) → r ≡ refused-at 12 0 → Outcome P ls r
-  is-read : GoodLines P ls → Ordered P (planSaid P ls) → Apart P (planSaid P ls) → (p : Plan) (ws : List ℕ) → r ≡ program p ws → Outcome P ls r
+  out-of-order : GoodLines P ls → (PlanOrdered P (planSaid P ls) → ⊥) → r ≡ refused-at 11 0 → Outcome P ls r
+  code-meets-table : GoodLines P ls → PlanOrdered P (planSaid P ls) → (PlanApart P (planSaid P ls) → ⊥) → r ≡ refused-at 12 0 → Outcome P ls r
+  is-read : GoodLines P ls → PlanOrdered P (planSaid P ls) → PlanApart P (planSaid P ls) → (p : Plan) (ws : List ℕ) → r ≡ program p ws → Outcome P ls r
 
 module _ (P : Profile) (ls : List Line) where
   -- a line has to follow, and none does
@@ -96,7 +95,7 @@ module _ (P : Profile) (ls : List Line) where
   words-outcome (suc n) a j l ws line (s ∷ ps) q c e r =
       let p = planSaid P ls in
       let rest : ℕ → Sheet = λ w. readWords P p n (a + 1) (l + 1) (ws ++ (w ∷ [])) (s ∷ ps) in
-      word-outcome (readWordLine P (formAt P p a) line) rest j l line s ps e (omega arith) r
+      word-outcome (readWordLine P (lineKindAt P p a) line) rest j l line s ps e (omega arith) r
       (word-number P ls j a (whole line) (linesIn (s ∷ ps)) q (r .rest))
       (λ z. words-outcome n (a + 1) (j + 1) (l + 1) _ s ps (omega arith) (omega arith) (omega arith) (next P ls j line s ps r z))
 
@@ -106,30 +105,28 @@ module _ (P : Profile) (ls : List Line) where
       → ((ns : List ℕ) → g ≡ values ns → numberAt P ls j ≡ 0 → Outcome P ls (f ns)) → Outcome P ls (withValues g l f)
   plan-outcome (values ns) f j l line s ps e t r z h go = go ns refl z
   plan-outcome (refused k) f j l line s ps e t r z h go =
-      bad j k (first-bad P ls j k (whole line) (linesIn (s ∷ ps)) (line ∷ s ∷ ps) r (r .rest) t z (λ q. omega arith)) (ap (refused-at k) e)
+      bad j k (first-bad P ls j k (whole line) (linesIn (s ∷ ps)) (line ∷ s ∷ ps) r (r .rest) t z (λ q. omega (arith, h .0))) (ap (refused-at k) e)
 
-  plans-outcome : (fs : List Form) (j l : ℕ) (qs : List EnginePlan) (s : List ℕ) (ps : List (List ℕ)) → drop j (engineForms P) ≡ fs → j ≤ enginesOf P
-      → qs ++ plansIn P fs (linesIn (s ∷ ps)) ≡ plansIn P (engineForms P) ls → l ≡ j + 1 → Reached P ls j (s ∷ ps)
-      → Outcome P ls (readPlans P fs l qs (s ∷ ps))
+  plans-outcome : (n j i : ℕ) (qs : List EnginePlan) (s : List ℕ) (ps : List (List ℕ)) → j + n ≡ enginesOf P
+      → qs ++ plansIn P n i (linesIn (s ∷ ps)) ≡ plansIn P (enginesOf P) 1 ls → i ≡ j + 1 → Reached P ls j (s ∷ ps)
+      → Outcome P ls (readPlans P n i qs (s ∷ ps))
   unfolding readPlans
-  plans-outcome [] j l qs s ps q c h e r =
+  plans-outcome zero j i qs s ps c h e r =
       let z : planSaid P ls ≡ planOf P qs = ap (planOf P) (sym h ∙ append-nil qs) in
-      let n : enginesOf P ≤ j = omega (arith, forms-count P, drop-none (engineForms P) j q) in
-      subst (λ (p : Plan). Outcome P ls (readWords P p (wordsOf P) 0 l [] (s ∷ ps))) z
-      (words-outcome (wordsOf P) 0 j l [] s ps (omega arith) (omega arith) e r)
-  plans-outcome (f ∷ fs) j l qs [] [] q c h e r = missing j r (before-words P j f fs q)
-  plans-outcome (f ∷ fs) j l qs (x ∷ s) [] q c h e r =
-      unended-bad j l x s e r (before-words P j f fs q) (plan-number P ls j f fs (cut (x ∷ s)) [] q (r .rest))
-  plans-outcome (f ∷ fs) j l qs line (s ∷ ps) q c h e r =
-      let rest : List ℕ → Sheet = λ ns. readPlans P fs (l + 1) (qs ++ (enginePlanOf ns ∷ [])) (s ∷ ps) in
-      plan-outcome (readLine P f line) rest j l line s ps e (before-words P j f fs q) r
-      (plan-number P ls j f fs (whole line) (linesIn (s ∷ ps)) q (r .rest))
-      (line-proper P f line)
+      subst (λ (p : Plan). Outcome P ls (readWords P p (wordsOf P) 0 i [] (s ∷ ps))) z
+      (words-outcome (wordsOf P) 0 j i [] s ps (omega arith) (omega arith) e r)
+  plans-outcome (suc n) j i qs [] [] c h e r = missing j r (omega arith)
+  plans-outcome (suc n) j i qs (x ∷ s) [] c h e r =
+      unended-bad j i x s e r (omega arith) (plan-number P ls j i (cut (x ∷ s)) [] e (omega arith) (r .rest))
+  plans-outcome (suc n) j i qs line (s ∷ ps) c h e r =
+      let rest : List ℕ → Sheet = λ ns. readPlans P n (i + 1) (qs ++ (enginePlanOf ns ∷ [])) (s ∷ ps) in
+      plan-outcome (readLine P (kind.Plan i) line) rest j i line s ps e (omega arith) r
+      (plan-number P ls j i (whole line) (linesIn (s ∷ ps)) e (omega arith) (r .rest))
+      (line-proper P (kind.Plan i) line)
       (λ ns g z.
-      plans-outcome fs (j + 1) (l + 1) (qs ++ (enginePlanOf ns ∷ [])) s ps (drop-next Spare (engineForms P) j q)
-      (omega (arith, before-engines P j f fs q))
-      (append-assoc qs (enginePlanOf ns ∷ []) (plansIn P fs (linesIn (s ∷ ps)))
-      ∙ ap (λ (y : Reading). qs ++ (planIn y ∷ plansIn P fs (linesIn (s ∷ ps)))) (sym g)
+      plans-outcome n (j + 1) (i + 1) (qs ++ (enginePlanOf ns ∷ [])) s ps (omega arith)
+      (append-assoc qs (enginePlanOf ns ∷ []) (plansIn P n (i + 1) (linesIn (s ∷ ps)))
+      ∙ ap (λ (y : Reading). qs ++ (planIn y ∷ plansIn P n (i + 1) (linesIn (s ∷ ps)))) (sym g)
       ∙ h)
       (omega arith)
       (next P ls j line s ps r z))
@@ -138,8 +135,8 @@ pub sheet-outcome : (P : Profile) (text : List ℕ) → Outcome P (linesOf text)
 unfolding readSheet linesOf
 sheet-outcome P text = go (split lineFeed text) (split-step lineFeed text)
   where
-    go : (ps : List (List ℕ)) {q : List ℕ} {qs : List (List ℕ)} → ps ≡ q ∷ qs → Outcome P (linesIn ps) (readPlans P (engineForms P) 1 [] ps)
+    go : (ps : List (List ℕ)) {q : List ℕ} {qs : List (List ℕ)} → ps ≡ q ∷ qs → Outcome P (linesIn ps) (readPlans P (enginesOf P) 1 [] ps)
     go [] e = let z = ap length e in absurd (omega arith)
     go (s ∷ ps) e =
-        plans-outcome P (linesIn (s ∷ ps)) (engineForms P) 0 1 [] s ps refl (omega arith) refl refl
+        plans-outcome P (linesIn (s ∷ ps)) (enginesOf P) 0 1 [] s ps (omega arith) refl refl
         (record { reached = omega arith; rest = refl; good = λ i l t. absurd (omega arith) })

@@ -12,13 +12,13 @@ use Rattle.plan.specs.Verdict.{reportOf}
 use Rattle.plan.specs.Tests.{holds}
 use Rattle.plan.specs.Check.{engineNumbers, firstFailing, checkRangesOf}
 use Rattle.plan.proofs.First.{allHold}
-use Rattle.asm.specs.Conditions.{Ordered, Apart}
+use Rattle.asm.specs.Conditions.{PlanOrdered, PlanApart}
 use Rattle.asm.proofs.Writable.{all-met, orders-met, meetings-met, ranges-exactly}
 
 pub data Ranged (P : Profile) (p : Plan) (n : ℕ) : Type 0 where
-  fine : Ordered P p → Apart P p → n ≡ 0 → Ranged P p n
-  unordered : (Ordered P p → ⊥) → n ≡ 11 → Ranged P p n
-  meeting : Ordered P p → (Apart P p → ⊥) → n ≡ 12 → Ranged P p n
+  fine : PlanOrdered P p → PlanApart P p → n ≡ 0 → Ranged P p n
+  unordered : (PlanOrdered P p → ⊥) → n ≡ 11 → Ranged P p n
+  meeting : PlanOrdered P p → (PlanApart P p → ⊥) → n ≡ 12 → Ranged P p n
 
 module _ (f : Verdict → Bool) where
   -- where all of a list hold, the next one decides
@@ -56,10 +56,10 @@ module _ (P : Profile) (p : Plan) where
   abbrev numberOf : Verdict → ℕ
   numberOf v = reportOf v .number
 
-  ordered-refuted : met orders ≡ false → Ordered P p → ⊥
+  ordered-refuted : met orders ≡ false → PlanOrdered P p → ⊥
   ordered-refuted h o = true≢false (sym (all-met P p [] orders .1 (orders-met P p [] .1 o)) ∙ h)
 
-  apart-refuted : met meetings ≡ false → Apart P p → ⊥
+  apart-refuted : met meetings ≡ false → PlanApart P p → ⊥
   apart-refuted h o = true≢false (sym (all-met P p [] meetings .1 (meetings-met P p [] .1 o)) ∙ h)
 
   pub ranged-cases : Ranged P p (reportOf (checkRangesOf P p) .number)
@@ -67,10 +67,10 @@ module _ (P : Profile) (p : Plan) where
   ranged-cases =
       by-test (met orders)
       (λ h.
-      let o : Ordered P p = orders-met P p [] .0 (all-met P p [] orders .0 h) in
+      let o : PlanOrdered P p = orders-met P p [] .0 (all-met P p [] orders .0 h) in
       by-test (met meetings)
       (λ k.
-      let m : Apart P p = meetings-met P p [] .0 (all-met P p [] meetings .0 k) in
+      let m : PlanApart P p = meetings-met P p [] .0 (all-met P p [] meetings .0 k) in
       fine o m (ap numberOf (ranges-exactly P p .1 (o, m))))
       (λ k.
       let r = first-among (holds P p []) CodeMeetsTable (engineNumbers P) [] k in

@@ -1,18 +1,15 @@
 -- How far a sheet has been read: the lines before a place are good, and the parts that are left are the others.
 use Prim.Native.Nat.{ℕ, suc, _+_, _-_, _≤_, _<_}
 use mathlib.Core.List.{List, [], _∷_}
-use mathlib.Core.Path.{_≡_, refl, sym, ap, ap₂, _∙_}
+use mathlib.Core.Path.{_≡_, sym, ap, ap₂, _∙_}
 use native.Mathlib.Omega.{arith}
 use borrow.Author.Tests.{eqb-true, eqb-false, lt-ltb, le-ltb}
 use lib.Dec.{eqb}
 use lib.ListN.{length, getD, drop, length-drop}
 use lib.Seq.{drop-cons}
 use Rattle.laws.proofs.Tests.{by-test}
-use Rattle.word.specs.Profile.{Profile, LP5523, enginesOf}
-use Rattle.grammar.specs.declared.Form.{Form}
-use Rattle.grammar.specs.declared.Form.the-variants.{Spare}
-use Rattle.asm.specs.Places.{formAt}
-use Rattle.asm.specs.PlanLines.{engineForms}
+use Rattle.word.specs.Profile.{Profile, enginesOf}
+use Rattle.asm.specs.Places.{lineKindAt}
 use Rattle.asm.specs.Conditions.{Line, cut, linesIn, planSaid, planLineNumber, wordLineNumber, numberAt, lineCount, GoodTo, FirstBad}
 
 -- ---- a list from a place on
@@ -40,33 +37,19 @@ pub record Reached (P : Profile) (ls : List Line) (j : ℕ) (ps : List (List ℕ
   pub rest : drop j ls ≡ linesIn ps
   pub good : GoodTo P ls j
 
-pub forms-count : (P : Profile) → length (engineForms P) ≡ enginesOf P
-forms-count LP5523 = refl
-
-module _ (P : Profile) where
-  -- a plan line is one of the first lines
-  pub before-engines : (j : ℕ) (f : Form) (fs : List Form) → drop j (engineForms P) ≡ f ∷ fs → j < enginesOf P
-  before-engines j f fs e = omega (arith, forms-count P, drop-within Spare (engineForms P) j e)
-
-  pub before-words : (j : ℕ) (f : Form) (fs : List Form) → drop j (engineForms P) ≡ f ∷ fs → j < lineCount P
-  before-words j f fs e = omega (arith, before-engines j f fs e)
-
 module _ (P : Profile) (ls : List Line) where
   -- the line at place j, as a plan line and as a word line
-  pub plan-number : (j : ℕ) (f : Form) (fs : List Form) (x : Line) (r : List Line) → drop j (engineForms P) ≡ f ∷ fs → drop j ls ≡ x ∷ r
-      → numberAt P ls j ≡ planLineNumber P f x
+  pub plan-number : (j i : ℕ) (x : Line) (r : List Line) → i ≡ j + 1 → j < enginesOf P → drop j ls ≡ x ∷ r → numberAt P ls j ≡ planLineNumber P i x
   unfolding numberAt
-  plan-number j f fs x r e h =
-      rw (lt-ltb j (enginesOf P) (before-engines P j f fs e))
-      (ap₂ (planLineNumber P) (drop-first Spare (engineForms P) j e) (drop-first (cut []) ls j h))
+  plan-number j i x r e l h = rw (lt-ltb j (enginesOf P) l) (ap₂ (planLineNumber P) (sym e) (drop-first (cut []) ls j h))
 
   pub word-number : (j a : ℕ) (x : Line) (r : List Line) → j ≡ enginesOf P + a → drop j ls ≡ x ∷ r
-      → numberAt P ls j ≡ wordLineNumber P (formAt P (planSaid P ls) a) x
+      → numberAt P ls j ≡ wordLineNumber P (lineKindAt P (planSaid P ls) a) x
   unfolding numberAt
   word-number j a x r e h =
       let z : j - enginesOf P ≡ a = omega arith in
       rw (le-ltb j (enginesOf P) (omega arith))
-      (ap₂ (λ (b : ℕ) (y : Line). wordLineNumber P (formAt P (planSaid P ls) b) y) z (drop-first (cut []) ls j h))
+      (ap₂ (λ (b : ℕ) (y : Line). wordLineNumber P (lineKindAt P (planSaid P ls) b) y) z (drop-first (cut []) ls j h))
 
   -- after a good line
   pub next : (j : ℕ) (line s : List ℕ) (ps : List (List ℕ)) → Reached P ls j (line ∷ s ∷ ps) → numberAt P ls j ≡ 0 → Reached P ls (j + 1) (s ∷ ps)

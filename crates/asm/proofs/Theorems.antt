@@ -10,7 +10,7 @@ use lib.ListN.{length, getD}
 use Rattle.plan.specs.Verdict.{isAccept}
 use Rattle.text.specs.Bytes.{lineFeed, split}
 use Rattle.text.proofs.Theorems.{joins-split}
-use Rattle.word.specs.Profile.{Profile, LP5523, wordsOf}
+use Rattle.word.specs.Profile.{Profile, LP5523, wordsOf, enginesOf}
 use Rattle.plan.specs.declared.EnginePlan.{EnginePlan}
 use Rattle.plan.specs.declared.EnginePlan.the-variants.{Unused, Code, CodeAndTable}
 use Rattle.plan.specs.declared.Plan.{Plan}
@@ -22,14 +22,13 @@ use Rattle.plan.proofs.Laws.{is-accept}
 use Rattle.op_lines.proofs.Theorems.{line-again, code-again, reads-defined}
 use Rattle.asm.specs.declared.Disassembled.{Disassembled}
 use Rattle.asm.specs.declared.Disassembled.the-variants.{Length, Refused, TooShort}
-use Rattle.asm.specs.PlanLines.{engineForms, planOf}
-use Rattle.asm.specs.Reading.{program, refused-at, readSheet, assembleOf}
+use Rattle.asm.specs.PlanLines.{planOf}
+use Rattle.asm.specs.Reading.{program, refused-at, readPlans, readSheet, assembleOf}
 use Rattle.asm.specs.Writing.{planLines, wordLines, ended, sheetOf, writableOf, disassembleOf}
 use Rattle.asm.specs.Theorems.{SheetAgain, ProgramAgain, Sound, ReadsSound}
 use Rattle.asm.proofs.Each.{Each, each-at, each-of}
-use Rattle.asm.proofs.Codes.{code-form}
+use Rattle.asm.proofs.Codes.{code-kind}
 use Rattle.asm.proofs.Writable.{ranges-exactly, writable-exactly}
-use Rattle.asm.proofs.PlanLaws.{engine-forms}
 use Rattle.asm.proofs.WordLaws.{word-line-back}
 use Rattle.asm.proofs.Steps.{never}
 use Rattle.asm.proofs.Again.{DefinedAt, SheetRead, plans-read}
@@ -41,8 +40,8 @@ code-below P Unused a o c = absurd c
 code-below P (Code f l) a o c = omega (arith, o .1, c .1)
 code-below P (CodeAndTable f l t b) a o c = omega (arith, o .0 .1, c .1)
 
--- as many plans as forms make a plan, and a plan has as many
-plans-of : (P : Profile) (qs : List EnginePlan) → length qs ≡ length (engineForms P) → enginePlans P (planOf P qs) ≡ qs
+-- as many plans as engines make a plan, and a plan has as many
+plans-of : (P : Profile) (qs : List EnginePlan) → length qs ≡ enginesOf P → enginePlans P (planOf P qs) ≡ qs
 plans-of LP5523 [] e = absurd (omega arith)
 plans-of LP5523 (q ∷ []) e = absurd (omega arith)
 plans-of LP5523 (q ∷ r ∷ []) e = absurd (omega arith)
@@ -52,7 +51,10 @@ plans-of LP5523 (q ∷ r ∷ s ∷ t ∷ ts) e = absurd (omega arith)
 plan-of : (P : Profile) (p : Plan) → planOf P (enginePlans P p) ≡ p
 plan-of LP5523 p = refl
 
-ready : (P : Profile) (p : Plan) → ((i : ℕ) → InOrder P (planAt P p i)) → Ready P (engineForms P) (enginePlans P p)
+plans-count : (P : Profile) (p : Plan) → (length (enginePlans P p) ≡ enginesOf P) × (enginesOf P < 65536)
+plans-count LP5523 p = (refl, omega arith)
+
+ready : (P : Profile) (p : Plan) → ((i : ℕ) → InOrder P (planAt P p i)) → Ready P (enginePlans P p)
 ready LP5523 p o = (o 1, (o 2, (o 3, tt)))
 
 -- ---- the answers
@@ -89,10 +91,10 @@ written P image p room e h = rw (e, le-leb (length (sheetOf P p image)) room h)
 
 -- what a sheet that is read tells
 sheet-read : (P : Profile) (text image : List ℕ) (p : Plan) (words : ℕ) → assembleOf P words text ≡ program p image
-    → SheetRead P (engineForms P) 1 [] (split lineFeed text) p image
+    → SheetRead P (enginesOf P) 1 [] (split lineFeed text) p image
 unfolding readSheet
 sheet-read P text image p words e =
-    plans-read line-again reads-defined P p image (engineForms P) 1 1 [] (split lineFeed text) (engine-forms P) (assembled P words text image p e)
+    plans-read line-again reads-defined P p image (enginesOf P) 1 [] (split lineFeed text) (assembled P words text image p e)
 
 pub reads-sound : ReadsSound
 reads-sound P text image p words e =
@@ -104,15 +106,15 @@ reads-sound P text image p words e =
       apart = o .1;
       defined = λ i a c.
           let l = code-below P (planAt P p i) a (o .0 i) c in
-          each-at (DefinedAt P p) image 0 a a (omega arith) (r .codes) (omega (arith, r .count)) (code-form P p a i c);
+          each-at (DefinedAt P p) image 0 a a (omega arith) (r .codes) (omega (arith, r .count)) (code-kind P p a i c);
     }
 
 sheet-same : (P : Profile) (text image : List ℕ) (p : Plan) (words : ℕ) → assembleOf P words text ≡ program p image → sheetOf P p image ≡ text
 unfolding sheetOf
 sheet-same P text image p words e =
     let r = sheet-read P text image p words e in
-    let plans : enginePlans P p ≡ r .rest = ap (enginePlans P) (r .plan) ∙ plans-of P (r .rest) (r .forms) in
-    ap (λ (qs : List EnginePlan). ended (planLines P 1 (engineForms P) qs ++ wordLines P p 0 image)) plans
+    let plans : enginePlans P p ≡ r .rest = ap (enginePlans P) (r .plan) ∙ plans-of P (r .rest) (r .plans) in
+    ap (λ (qs : List EnginePlan). ended (planLines P 1 qs ++ wordLines P p 0 image)) plans
     ∙ r .text
     ∙ joins-split lineFeed text
 
@@ -136,4 +138,5 @@ program-again P image p room n small e =
     let ranges = ranges-exactly P p .1 (s .ordered, s .apart) in
     let back = words-back P image p small s in
     rw (eq-eqb (wordsOf P) (wordsOf P) refl)
-    (plans-back P p ranges image (s .words) back (engineForms P) 1 1 [] (enginePlans P p) (engine-forms P) (ready P p (s .ordered)) (plan-of P p))
+    (subst (λ (n : ℕ). readPlans P n 1 [] (split lineFeed (sheetOf P p image)) ≡ program p image) (plans-count P p .0)
+    (plans-back P p ranges image (s .words) back (enginePlans P p) 1 [] (omega (arith, plans-count P p .0, plans-count P p .1)) (ready P p (s .ordered)) (plan-of P p)))

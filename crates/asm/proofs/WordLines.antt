@@ -6,7 +6,7 @@ use native.Mathlib.Omega.{arith}
 use borrow.Author.Tests.{le-ltb}
 use lib.ListN.{getD}
 use Rattle.word.specs.Profile.{enginesOf}
-use Rattle.asm.specs.Places.{formAt}
+use Rattle.asm.specs.Places.{lineKindAt}
 use Rattle.asm.specs.Conditions.{cut, linesOf, planSaid, wordLineNumber, numberAt}
 use Rattle.asm.specs.Theorems.{WordsInLines}
 use Rattle.asm.proofs.Exactly.{refuses-exactly}
@@ -20,6 +20,6 @@ words-in-lines P text a =
     record {
       judged =
           rw (le-ltb k (enginesOf P) (omega arith))
-          (ap (λ (b : ℕ). wordLineNumber P (formAt P (planSaid P ls) b) (getD ls k (cut []))) z);
+          (ap (λ (b : ℕ). wordLineNumber P (lineKindAt P (planSaid P ls) b) (getD ls k (cut []))) z);
       refused = λ n. refuses-exactly P text .line k n;
     }

@@ -1,6 +1,6 @@
 -- When a sheet is refused, as plain statements ("Numbers of refusal" and the paragraph under its table). That the reader gives each number
 -- exactly there is stated below; the proofs are in proofs/Exactly.antt. What makes a line bad is in the conditions of `grammar` and `op_lines`.
-use Prim.Native.Nat.{ℕ, _+_, _-_, _<_}
+use Prim.Native.Nat.{ℕ, zero, suc, _+_, _-_, _<_}
 use mathlib.Core.Bool.{cond}
 use mathlib.Core.List.{List, [], _∷_}
 use mathlib.Core.Logic.{_↔_, _⊎_}
@@ -10,15 +10,16 @@ use lib.ListN.{length, getD}
 use Rattle.text.specs.Bytes.{lineFeed, split}
 use Rattle.word.specs.Profile.{Profile, wordsOf, enginesOf}
 use Rattle.plan.specs.declared.EnginePlan.{EnginePlan}
+use Rattle.plan.specs.declared.EnginePlan.the-variants.{Unused}
 use Rattle.plan.specs.declared.Plan.{Plan}
 use Rattle.plan.specs.declared.Verdict.the-variants.{OutOfOrder, CodeMeetsTable}
 use Rattle.plan.specs.Conditions.{Condition}
-use Rattle.grammar.specs.declared.Form.{Form}
-use Rattle.grammar.specs.declared.Form.the-variants.{Spare}
+use Rattle.grammar.specs.declared.LineKind.{LineKind}
+use Rattle.grammar.specs.declared.LineKind.the-variants as kind
 use Rattle.grammar.specs.Form.{Reading, values, refused}
 use Rattle.grammar.specs.Grammar.{readLine}
-use Rattle.asm.specs.Places.{formAt}
-use Rattle.asm.specs.PlanLines.{engineForms, planOf, enginePlanOf}
+use Rattle.asm.specs.Places.{lineKindAt}
+use Rattle.asm.specs.PlanLines.{planOf, enginePlanOf}
 use Rattle.asm.specs.Reading.{readWordLine, refused-at, readSheet}
 
 -- A line of a text: ended by its LF, or cut off by the text's end.
@@ -39,40 +40,40 @@ linesIn (p ∷ q ∷ ps) = whole p ∷ linesIn (q ∷ ps)
 unfoldable pub linesOf : List ℕ → List Line
 linesOf text = linesIn (split lineFeed text)
 
--- The plans that the plan lines say.
+-- The plans that n plan lines say, from engine i's on.
 abbrev pub planIn : Reading → EnginePlan
 planIn (values ns) = enginePlanOf ns
-planIn (refused k) = enginePlanOf []
+planIn (refused k) = Unused
 
-abbrev pub plansIn : Profile → List Form → List Line → List EnginePlan
-plansIn P [] ls = []
-plansIn P (f ∷ fs) [] = []
-plansIn P (f ∷ fs) (whole p ∷ ls) = planIn (readLine P f p) ∷ plansIn P fs ls
-plansIn P (f ∷ fs) (cut p ∷ ls) = planIn (readLine P f p) ∷ plansIn P fs ls
+abbrev pub plansIn : Profile → ℕ → ℕ → List Line → List EnginePlan
+plansIn P zero i ls = []
+plansIn P (suc n) i [] = []
+plansIn P (suc n) i (whole p ∷ ls) = planIn (readLine P (kind.Plan i) p) ∷ plansIn P n (i + 1) ls
+plansIn P (suc n) i (cut p ∷ ls) = planIn (readLine P (kind.Plan i) p) ∷ plansIn P n (i + 1) ls
 
 abbrev pub planSaid : Profile → List Line → Plan
-planSaid P ls = planOf P (plansIn P (engineForms P) ls)
+planSaid P ls = planOf P (plansIn P (enginesOf P) 1 ls)
 
 -- The number of a line's refusal, 0 for none: a plan line's, and a word line's.
 abbrev pub refusalOf : Reading → ℕ
 refusalOf (values ns) = 0
 refusalOf (refused k) = k
 
-abbrev pub planLineNumber : Profile → Form → Line → ℕ
-planLineNumber P f (whole p) = refusalOf (readLine P f p)
-planLineNumber P f (cut p) = 20
+abbrev pub planLineNumber : Profile → ℕ → Line → ℕ
+planLineNumber P i (whole p) = refusalOf (readLine P (kind.Plan i) p)
+planLineNumber P i (cut p) = 20
 
-abbrev pub wordLineNumber : Profile → Form → Line → ℕ
-wordLineNumber P f (whole p) = readWordLine P f p .number
-wordLineNumber P f (cut p) = 20
+abbrev pub wordLineNumber : Profile → LineKind → Line → ℕ
+wordLineNumber P k (whole p) = readWordLine P k p .number
+wordLineNumber P k (cut p) = 20
 
 -- Of the line at place k, counted from 0, in a sheet with these lines.
 unfoldable pub numberAt : Profile → List Line → ℕ → ℕ
 numberAt P ls k =
     cond
     (ltb k (enginesOf P))
-    (planLineNumber P (getD (engineForms P) k Spare) (getD ls k (cut [])))
-    (wordLineNumber P (formAt P (planSaid P ls) (k - enginesOf P)) (getD ls k (cut [])))
+    (planLineNumber P (k + 1) (getD ls k (cut [])))
+    (wordLineNumber P (lineKindAt P (planSaid P ls) (k - enginesOf P)) (getD ls k (cut [])))
 
 -- As many lines as plans and words: "not exactly 99 lines".
 abbrev pub lineCount : Profile → ℕ
@@ -90,11 +91,12 @@ pub record FirstBad (P : Profile) (ls : List Line) (k n : ℕ) : Type 0 where
   pub bad : numberAt P ls k ≡ n
   pub refusal : n ≡ 0 → ⊥
 
-abbrev pub Ordered : Profile → Plan → Type 0
-Ordered P p = (i : ℕ) → Condition P p [] (OutOfOrder i)
+-- Not 11, and not 12.
+abbrev pub PlanOrdered : Profile → Plan → Type 0
+PlanOrdered P p = (i : ℕ) → Condition P p [] (OutOfOrder i)
 
-abbrev pub Apart : Profile → Plan → Type 0
-Apart P p = (i : ℕ) → Condition P p [] (CodeMeetsTable i)
+abbrev pub PlanApart : Profile → Plan → Type 0
+PlanApart P p = (i : ℕ) → Condition P p [] (CodeMeetsTable i)
 
 -- All lines are good, and there are as many as there have to be.
 abbrev pub GoodLines : Profile → List Line → Type 0
@@ -104,10 +106,10 @@ GoodLines P ls = GoodTo P ls (lineCount P) × (length ls ≡ lineCount P)
 pub record Exactly (P : Profile) (text : List ℕ) : Type 0 where
   pub line : (k n : ℕ) → (readSheet P text ≡ refused-at n (k + 1)) ↔ FirstBad P (linesOf text) k n
   pub is23 : (readSheet P text ≡ refused-at 23 0) ↔ (GoodTo P (linesOf text) (lineCount P) × (length (linesOf text) ≡ lineCount P → ⊥))
-  pub is11 : (readSheet P text ≡ refused-at 11 0) ↔ (GoodLines P (linesOf text) × (Ordered P (planSaid P (linesOf text)) → ⊥))
+  pub is11 : (readSheet P text ≡ refused-at 11 0) ↔ (GoodLines P (linesOf text) × (PlanOrdered P (planSaid P (linesOf text)) → ⊥))
   pub is12 :
       (readSheet P text ≡ refused-at 12 0)
-      ↔ (GoodLines P (linesOf text) × Ordered P (planSaid P (linesOf text)) × (Apart P (planSaid P (linesOf text)) → ⊥))
+      ↔ (GoodLines P (linesOf text) × PlanOrdered P (planSaid P (linesOf text)) × (PlanApart P (planSaid P (linesOf text)) → ⊥))
   pub others : (n : ℕ) → readSheet P text ≡ refused-at n 0 → (n ≡ 23) ⊎ ((n ≡ 11) ⊎ (n ≡ 12))
 
 -- 3. The reader's refusals are exactly the paper's.

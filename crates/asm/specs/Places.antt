@@ -9,8 +9,8 @@ use Rattle.plan.specs.declared.EnginePlan.the-variants.{Unused, Code, CodeAndTa
 use Rattle.plan.specs.declared.Plan.{Plan}
 use Rattle.plan.specs.Ranges.{enginePlans}
 use Rattle.plan.specs.Tests.{inRange, inCode}
-use Rattle.grammar.specs.declared.Form.{Form}
-use Rattle.grammar.specs.declared.Form.the-variants.{Op, Row, Spare}
+use Rattle.grammar.specs.declared.LineKind.{LineKind}
+use Rattle.grammar.specs.declared.LineKind.the-variants.{Op, Row, Spare}
 
 abbrev pub inTable : EnginePlan → ℕ → Bool
 inTable Unused a = false
@@ -21,8 +21,8 @@ abbrev pub anyHas : (EnginePlan → ℕ → Bool) → List EnginePlan → ℕ �
 anyHas has [] a = false
 anyHas has (q ∷ qs) a = has q a || anyHas has qs a
 
-unfoldable pub formAt : Profile → Plan → ℕ → Form
-formAt P p a = cond (anyHas inCode (enginePlans P p) a) Op (cond (anyHas inTable (enginePlans P p) a) Row Spare)
+unfoldable pub lineKindAt : Profile → Plan → ℕ → LineKind
+lineKindAt P p a = cond (anyHas inCode (enginePlans P p) a) Op (cond (anyHas inTable (enginePlans P p) a) Row Spare)
 
 -- The lowest engine that has an address, of these from number i on; d where none has it.
 abbrev pub lowestWith : (EnginePlan → ℕ → Bool) → ℕ → List EnginePlan → ℕ → ℕ → ℕ

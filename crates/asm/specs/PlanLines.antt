@@ -9,12 +9,6 @@ use Rattle.word.specs.Steps.{addressAt}
 use Rattle.plan.specs.declared.EnginePlan.{EnginePlan}
 use Rattle.plan.specs.declared.EnginePlan.the-variants.{Unused, Code, CodeAndTable}
 use Rattle.plan.specs.declared.Plan.{Plan}
-use Rattle.grammar.specs.declared.Form.{Form}
-use Rattle.grammar.specs.declared.Form.the-variants.{Engine1, Engine2, Engine3}
-
--- The plan lines that a sheet has.
-abbrev pub engineForms : Profile → List Form
-engineForms LP5523 = Engine1 ∷ Engine2 ∷ Engine3 ∷ []
 
 -- The plan of the engines that a chip has.
 abbrev pub planOf : Profile → List EnginePlan → Plan

@@ -6,19 +6,19 @@ use mathlib.Core.List.{List, [], _∷_, _++_}
 use lib.Dec.{eqb}
 use lib.ListN.{getD}
 use Rattle.text.specs.Bytes.{lineFeed, split}
-use Rattle.word.specs.Profile.{Profile, wordsOf}
+use Rattle.word.specs.Profile.{Profile, wordsOf, enginesOf}
 use Rattle.word.specs.Answer.{Answer, success, refusal}
 use Rattle.plan.specs.declared.EnginePlan.{EnginePlan}
 use Rattle.plan.specs.declared.Plan.{Plan}
 use Rattle.plan.specs.Verdict.{reportOf}
 use Rattle.plan.specs.Check.{checkRangesOf}
-use Rattle.grammar.specs.declared.Form.{Form}
-use Rattle.grammar.specs.declared.Form.the-variants.{Op, Engine1, Engine2, Engine3, Row, Spare}
+use Rattle.grammar.specs.declared.LineKind.{LineKind}
+use Rattle.grammar.specs.declared.LineKind.the-variants as kind
 use Rattle.grammar.specs.Form.{Reading, values, refused}
 use Rattle.grammar.specs.Grammar.{readLine}
 use Rattle.op_lines.specs.Lines.{assembleLineOf}
-use Rattle.asm.specs.Places.{formAt}
-use Rattle.asm.specs.PlanLines.{engineForms, planOf, enginePlanOf}
+use Rattle.asm.specs.Places.{lineKindAt}
+use Rattle.asm.specs.PlanLines.{planOf, enginePlanOf}
 
 -- What reading a sheet gives: the plan and the words of the image, or a refusal's number and line.
 pub data Sheet : Type 0 where
@@ -30,14 +30,12 @@ abbrev pub plainWord : Reading → Answer
 plainWord (values ns) = success (getD ns 0 0)
 plainWord (refused k) = refusal k
 
--- The word of a word line of this form.
-abbrev pub readWordLine : Profile → Form → List ℕ → Answer
-readWordLine P Op line = assembleLineOf P line
-readWordLine P Engine1 line = plainWord (readLine P Engine1 line)
-readWordLine P Engine2 line = plainWord (readLine P Engine2 line)
-readWordLine P Engine3 line = plainWord (readLine P Engine3 line)
-readWordLine P Row line = plainWord (readLine P Row line)
-readWordLine P Spare line = plainWord (readLine P Spare line)
+-- The word of a word line of this kind.
+abbrev pub readWordLine : Profile → LineKind → List ℕ → Answer
+readWordLine P kind.Op line = assembleLineOf P line
+readWordLine P (kind.Plan i) line = plainWord (readLine P (kind.Plan i) line)
+readWordLine P kind.Row line = plainWord (readLine P kind.Row line)
+readWordLine P kind.Spare line = plainWord (readLine P kind.Spare line)
 
 -- What stands after the last LF: nothing, so a line is missing; or a line with a bad ending.
 abbrev pub unended : List ℕ → ℕ → Sheet
@@ -70,18 +68,18 @@ readWords P p zero a l ws ps = closed P p ws ps
 readWords P p (suc n) a l ws [] = refused-at 23 0
 readWords P p (suc n) a l ws (line ∷ []) = unended line l
 readWords P p (suc n) a l ws (line ∷ q ∷ ps) =
-    withWord (readWordLine P (formAt P p a) line) l (λ w. readWords P p n (a + 1) (l + 1) (ws ++ (w ∷ [])) (q ∷ ps))
+    withWord (readWordLine P (lineKindAt P p a) line) l (λ w. readWords P p n (a + 1) (l + 1) (ws ++ (w ∷ [])) (q ∷ ps))
 
--- Plan lines of these forms more, after the plans qs; then the words.
-unfoldable pub readPlans : Profile → List Form → ℕ → List EnginePlan → List (List ℕ) → Sheet
-readPlans P [] l qs ps = readWords P (planOf P qs) (wordsOf P) 0 l [] ps
-readPlans P (f ∷ fs) l qs [] = refused-at 23 0
-readPlans P (f ∷ fs) l qs (line ∷ []) = unended line l
-readPlans P (f ∷ fs) l qs (line ∷ q ∷ ps) =
-    withValues (readLine P f line) l (λ ns. readPlans P fs (l + 1) (qs ++ (enginePlanOf ns ∷ [])) (q ∷ ps))
+-- n plan lines more, after the plans qs, then the words: engine i's stands in line i.
+unfoldable pub readPlans : Profile → ℕ → ℕ → List EnginePlan → List (List ℕ) → Sheet
+readPlans P zero i qs ps = readWords P (planOf P qs) (wordsOf P) 0 i [] ps
+readPlans P (suc n) i qs [] = refused-at 23 0
+readPlans P (suc n) i qs (line ∷ []) = unended line i
+readPlans P (suc n) i qs (line ∷ q ∷ ps) =
+    withValues (readLine P (kind.Plan i) line) i (λ ns. readPlans P n (i + 1) (qs ++ (enginePlanOf ns ∷ [])) (q ∷ ps))
 
 unfoldable pub readSheet : Profile → List ℕ → Sheet
-readSheet P text = readPlans P (engineForms P) 1 [] (split lineFeed text)
+readSheet P text = readPlans P (enginesOf P) 1 [] (split lineFeed text)
 
 -- With a lent image of so many words: "9: image, given or lent for the answer, not 96 words; judged first".
 unfoldable pub assembleOf : Profile → ℕ → List ℕ → Sheet

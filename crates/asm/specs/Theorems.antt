@@ -11,7 +11,7 @@ use Rattle.plan.specs.Ranges.{planAt, InCode}
 use Rattle.plan.specs.Conditions.{Condition}
 use Rattle.word.specs.Steps.{addressAt}
 use Rattle.asm.specs.declared.Disassembled.the-variants.{Length}
-use Rattle.asm.specs.Places.{formAt, lineOf}
+use Rattle.asm.specs.Places.{lineKindAt, lineOf}
 use Rattle.asm.specs.Reading.{program, refused-at, readSheet, assembleOf}
 use Rattle.asm.specs.Writing.{sheetOf, disassembleOf}
 use Rattle.asm.specs.Conditions.{cut, linesOf, planSaid, wordLineNumber, numberAt, FirstBad}
@@ -45,7 +45,7 @@ ReadsSound = (P : Profile) (text image : List ℕ) (p : Plan) (words : ℕ) → 
 pub record WordInLine (P : Profile) (text : List ℕ) (a : ℕ) : Type 0 where
   pub judged :
       numberAt P (linesOf text) (enginesOf P + a)
-      ≡ wordLineNumber P (formAt P (planSaid P (linesOf text)) a) (getD (linesOf text) (enginesOf P + a) (cut []))
+      ≡ wordLineNumber P (lineKindAt P (planSaid P (linesOf text)) a) (getD (linesOf text) (enginesOf P + a) (cut []))
   pub refused : (n : ℕ) → (readSheet P text ≡ refused-at n (lineOf P a)) ↔ FirstBad P (linesOf text) (enginesOf P + a) n
 
 abbrev pub WordsInLines : Type 0

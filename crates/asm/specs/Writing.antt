@@ -16,34 +16,32 @@ use Rattle.plan.specs.declared.Verdict.the-variants.{WrongLength, OutOfOrder, C
 use Rattle.plan.specs.Ranges.{enginePlans, planAt, codeAddresses}
 use Rattle.plan.specs.Tests.{holds}
 use Rattle.plan.specs.Check.{engineNumbers, joined, firstFailing}
-use Rattle.grammar.specs.declared.Form.{Form}
-use Rattle.grammar.specs.declared.Form.the-variants.{Op, Engine1, Engine2, Engine3, Row, Spare}
+use Rattle.grammar.specs.declared.LineKind.the-variants.{Op, Row, Spare}
+use Rattle.grammar.specs.declared.LineKind.{LineKind}
+use Rattle.grammar.specs.declared.LineKind.the-variants as kind
 use Rattle.grammar.specs.Grammar.{writeLine}
 use Rattle.op_lines.specs.Lines.{opLineOf, over}
 use Rattle.asm.specs.declared.Disassembled.{Disassembled}
 use Rattle.asm.specs.declared.Disassembled.the-variants.{Length, Refused, TooShort}
-use Rattle.asm.specs.Places.{formAt}
-use Rattle.asm.specs.PlanLines.{engineForms, planValues}
+use Rattle.asm.specs.Places.{lineKindAt}
+use Rattle.asm.specs.PlanLines.{planValues}
 
--- The line of a word at a place of this form.
-abbrev pub wordLine : Profile → Form → ℕ → List ℕ
-wordLine P Op w = opLineOf P w
-wordLine P Engine1 w = writeLine P Engine1 (w ∷ [])
-wordLine P Engine2 w = writeLine P Engine2 (w ∷ [])
-wordLine P Engine3 w = writeLine P Engine3 (w ∷ [])
-wordLine P Row w = writeLine P Row (w ∷ [])
-wordLine P Spare w = writeLine P Spare (w ∷ [])
+-- The line of a word at a place of this kind.
+abbrev pub wordLine : Profile → LineKind → ℕ → List ℕ
+wordLine P kind.Op w = opLineOf P w
+wordLine P (kind.Plan i) w = writeLine P (kind.Plan i) (w ∷ [])
+wordLine P kind.Row w = writeLine P kind.Row (w ∷ [])
+wordLine P kind.Spare w = writeLine P kind.Spare (w ∷ [])
 
 -- The plan lines, from engine i on.
-unfoldable pub planLines : Profile → ℕ → List Form → List EnginePlan → List (List ℕ)
-planLines P i [] qs = []
-planLines P i (f ∷ fs) [] = []
-planLines P i (f ∷ fs) (q ∷ qs) = writeLine P f (planValues i q) ∷ planLines P (i + 1) fs qs
+unfoldable pub planLines : Profile → ℕ → List EnginePlan → List (List ℕ)
+planLines P i [] = []
+planLines P i (q ∷ qs) = writeLine P (kind.Plan i) (planValues i q) ∷ planLines P (i + 1) qs
 
 -- The word lines, from address a on.
 unfoldable pub wordLines : Profile → Plan → ℕ → List ℕ → List (List ℕ)
 wordLines P p a [] = []
-wordLines P p a (w ∷ ws) = wordLine P (formAt P p a) w ∷ wordLines P p (a + 1) ws
+wordLines P p a (w ∷ ws) = wordLine P (lineKindAt P p a) w ∷ wordLines P p (a + 1) ws
 
 -- "LF after each line".
 unfoldable pub ended : List (List ℕ) → List ℕ
@@ -51,7 +49,7 @@ ended [] = []
 ended (l ∷ ls) = l ++ (lineFeed ∷ ended ls)
 
 unfoldable pub sheetOf : Profile → Plan → List ℕ → List ℕ
-sheetOf P p image = ended (planLines P 1 (engineForms P) (enginePlans P p) ++ wordLines P p 0 image)
+sheetOf P p image = ended (planLines P 1 (enginePlans P p) ++ wordLines P p 0 image)
 
 -- 13 for each code word of engine i, upward.
 abbrev pub undefinedAt : Plan → Profile → ℕ → List Verdict

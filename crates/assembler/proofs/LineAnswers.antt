@@ -1,24 +1,22 @@
 -- What a sheet's reader makes of a line, from what the function that reads the line answered.
-use Prim.Native.Nat.{ℕ, _<_}
+use Prim.Native.Nat.{ℕ, _≤_}
 use mathlib.Core.List.{List}
 use mathlib.Core.Bool.{Bool, cond}
-use mathlib.Core.Logic.{_⊎_}
 use mathlib.Core.Path.{_≡_, refl, sym, ap, subst, _∙_}
 use native.Mathlib.Omega.{arith}
 use borrow.Author.Tests.{ne-eqb}
 use Rattle.word.specs.Profile.{Profile}
 use Rattle.plan.specs.declared.EnginePlan.{EnginePlan}
-use Rattle.grammar.specs.declared.Form.{Form}
+use Rattle.grammar.specs.declared.LineKind.{LineKind}
 use Rattle.grammar.specs.declared.Values.{Values}
 use Rattle.grammar.specs.declared.LineRead.the-variants.{Read, Refused}
 use Rattle.grammar.specs.Form.{Reading, values, refused}
 use Rattle.grammar.specs.Grammar.{readLine}
 use Rattle.grammar.specs.Tables.{valuesOf, listOf, lineReadOf}
-use Rattle.grammar.proofs.Exactly.{refuses-exactly}
 use Rattle.op_lines.proofs.Answered.{refused-as}
 use Rattle.asm.specs.PlanLines.{enginePlanOf}
 use Rattle.asm.specs.Reading.{Sheet, refused-at, plainWord, withValues, withWord}
-use Rattle.asm.proofs.Proper.{Proper}
+use Rattle.asm.proofs.Proper.{Proper, line-proper}
 
 -- a line that was read has the values that were answered
 was-read : (r : Reading) {v : Values} → lineReadOf r ≡ Read v → (ns : List ℕ) × (r ≡ values ns) × (v ≡ valuesOf ns)
@@ -29,8 +27,8 @@ was-read (refused k) e =
     absurd (omega arith)
 
 -- a line's refusal is one of three
-pub refused-with : (P : Profile) (f : Form) (line : List ℕ) {k : ℕ} → lineReadOf (readLine P f line) ≡ Refused k → (k ≡ 20) ⊎ ((k ≡ 21) ⊎ (k ≡ 22))
-refused-with P f line {k} e = refuses-exactly P f line .others k (refused-as (readLine P f line) e)
+pub refused-with : (P : Profile) (k : LineKind) (line : List ℕ) {n : ℕ} → lineReadOf (readLine P k line) ≡ Refused n → (20 ≤ n) × (n ≤ 22)
+refused-with P k line e = subst Proper (refused-as (readLine P k line) e) (line-proper P k line)
 
 module _ (r : Reading) (l : ℕ) where
   -- a plan line
@@ -53,5 +51,5 @@ module _ (r : Reading) (l : ℕ) where
   pub word-refused : {k : ℕ} (f : ℕ → Sheet) → Proper r → lineReadOf r ≡ Refused k → refused-at k l ≡ withWord (plainWord r) l f
   word-refused {k} f h e =
       let q = refused-as r e in
-      let p : 0 < k = subst Proper q h in
+      let p : 20 ≤ k = subst Proper q h .0 in
       ap (λ (b : Bool). cond b (f 0) (refused-at k l)) (sym (ne-eqb k 0 (λ z. omega arith))) ∙ ap (λ (x : Reading). withWord (plainWord x) l f) (sym q)

@@ -14,9 +14,9 @@ use Rattle.plan.specs.declared.EnginePlan.{EnginePlan}
 use Rattle.plan.specs.declared.Plan.{Plan}
 use Rattle.plan.specs.Verdict.{reportOf}
 use Rattle.plan.specs.Check.{checkRangesOf}
-use Rattle.grammar.specs.declared.Form.{Form}
+use Rattle.grammar.specs.declared.LineKind.the-variants as kind
 use Rattle.grammar.specs.Grammar.{readLine}
-use Rattle.asm.specs.Places.{formAt}
+use Rattle.asm.specs.Places.{lineKindAt}
 use Rattle.asm.specs.PlanLines.{enginePlanOf}
 use Rattle.asm.specs.Reading.{Sheet, refused-at, readWordLine, unended, ranged, closed, withValues, withWord, readWords, readPlans}
 use Rattle.assembler.specs.Walks.{linesFrom}
@@ -40,22 +40,22 @@ module _ (text : List ℕ) (at : ℕ) (line : List ℕ) (is : line ≡ partAt li
   rest h = split-at-none lineFeed at text (omega (arith, ap length is)) ∙ ap (λ (p : List ℕ). p ∷ []) (sym is)
 
   -- a plan line
-  module _ (f : Form) (fs : List Form) (l : ℕ) (qs : List EnginePlan) where
+  module _ (n i : ℕ) (qs : List EnginePlan) where
     pub plan-goes : at + length line < length text
-        → readPlans LP5523 (f ∷ fs) l qs (linesFrom at text)
-        ≡ withValues (readLine LP5523 f line) l (λ ns. readPlans LP5523 fs (l + 1) (qs ++ (enginePlanOf ns ∷ [])) (linesFrom next text))
+        → readPlans LP5523 (suc n) i qs (linesFrom at text)
+        ≡ withValues (readLine LP5523 (kind.Plan i) line) i (λ ns. readPlans LP5523 n (i + 1) (qs ++ (enginePlanOf ns ∷ [])) (linesFrom next text))
     unfolding readPlans
     plan-goes h =
-        ap (readPlans LP5523 (f ∷ fs) l qs) (whole h)
+        ap (readPlans LP5523 (suc n) i qs) (whole h)
         ∙ one-more text next
         (λ (ps : List (List ℕ)).
-        readPlans LP5523 (f ∷ fs) l qs (line ∷ ps)
-        ≡ withValues (readLine LP5523 f line) l (λ ns. readPlans LP5523 fs (l + 1) (qs ++ (enginePlanOf ns ∷ [])) ps))
+        readPlans LP5523 (suc n) i qs (line ∷ ps)
+        ≡ withValues (readLine LP5523 (kind.Plan i) line) i (λ ns. readPlans LP5523 n (i + 1) (qs ++ (enginePlanOf ns ∷ [])) ps))
         (λ q ps. refl)
 
-    pub plan-rest : length text ≤ at + length line → readPlans LP5523 (f ∷ fs) l qs (linesFrom at text) ≡ unended line l
+    pub plan-rest : length text ≤ at + length line → readPlans LP5523 (suc n) i qs (linesFrom at text) ≡ unended line i
     unfolding readPlans
-    plan-rest h = ap (readPlans LP5523 (f ∷ fs) l qs) (rest h)
+    plan-rest h = ap (readPlans LP5523 (suc n) i qs) (rest h)
 
 -- The words from the one with address k on, after the words ws, from a place of the text.
 unfoldable pub wordsFrom : Plan → ℕ → List ℕ → ℕ → List ℕ → Sheet
@@ -68,7 +68,7 @@ module _ (p : Plan) (k : ℕ) (ws : List ℕ) (text : List ℕ) (at : ℕ) (line
 
   pub word-goes : at + length line < length text
       → wordsFrom p k ws at text
-      ≡ withWord (readWordLine LP5523 (formAt LP5523 p k) line) (k + 4) (λ w. wordsFrom p (k + 1) (ws ++ (w ∷ [])) (at + length line + 1) text)
+      ≡ withWord (readWordLine LP5523 (lineKindAt LP5523 p k) line) (k + 4) (λ w. wordsFrom p (k + 1) (ws ++ (w ∷ [])) (at + length line + 1) text)
   unfolding wordsFrom readWords
   word-goes h =
       let n : ℕ = 96 - (k + 1) in
@@ -77,11 +77,11 @@ module _ (p : Plan) (k : ℕ) (ws : List ℕ) (text : List ℕ) (at : ℕ) (line
       ∙ one-more text (at + length line + 1)
       (λ (ps : List (List ℕ)).
       readWords LP5523 p (suc n) k (k + 4) ws (line ∷ ps)
-      ≡ withWord (readWordLine LP5523 (formAt LP5523 p k) line) (k + 4) (λ w. readWords LP5523 p n (k + 1) (k + 4 + 1) (ws ++ (w ∷ [])) ps))
+      ≡ withWord (readWordLine LP5523 (lineKindAt LP5523 p k) line) (k + 4) (λ w. readWords LP5523 p n (k + 1) (k + 4 + 1) (ws ++ (w ∷ [])) ps))
       (λ q ps. refl)
       ∙ ap
       (λ (l : ℕ).
-      withWord (readWordLine LP5523 (formAt LP5523 p k) line) (k + 4)
+      withWord (readWordLine LP5523 (lineKindAt LP5523 p k) line) (k + 4)
       (λ w. readWords LP5523 p n (k + 1) l (ws ++ (w ∷ [])) (linesFrom (at + length line + 1) text)))
       number
 

@@ -5,7 +5,6 @@ use lib.ListN.{length, drop}
 use Rattle.text.specs.Bytes.{lineFeed, split}
 use Rattle.word.specs.Profile.{LP5523}
 use Rattle.plan.specs.declared.EnginePlan.{EnginePlan}
-use Rattle.grammar.specs.declared.Form.{Form}
 use Rattle.asm.specs.Answers.{readingOf}
 use Rattle.asm.specs.Reading.{Sheet, readPlans}
 use Rattle.assembler.specs.declared.PlanLine.{PlanLine}
@@ -17,10 +16,10 @@ use Rattle.assembler.specs.declared.WordRead.the-variants as word
 abbrev pub linesFrom : ℕ → List ℕ → List (List ℕ)
 linesFrom at text = split lineFeed (drop at text)
 
--- After plan line l: the other plan lines fs follow the plans qs. A refusal is one whatever words ws were read.
-abbrev pub thenPlans : PlanLine → List ℕ → ℕ → List Form → List EnginePlan → List ℕ → Sheet
-thenPlans (Plan q next) text l fs qs ws = readPlans LP5523 fs (l + 1) (qs ++ (q ∷ [])) (linesFrom next text)
-thenPlans (Refused a) text l fs qs ws = readingOf a ws
+-- After the plan line of engine i, before which the plans qs were read: n plan lines follow. A refusal is one whatever words ws were read.
+abbrev pub thenPlans : PlanLine → List ℕ → ℕ → ℕ → List EnginePlan → List ℕ → Sheet
+thenPlans (Plan q next) text i n qs ws = readPlans LP5523 n (i + 1) (qs ++ (q ∷ [])) (linesFrom next text)
+thenPlans (Refused a) text i n qs ws = readingOf a ws
 
 abbrev pub Within : PlanLine → List ℕ → Type 0
 Within (Plan q next) text = next ≤ length text

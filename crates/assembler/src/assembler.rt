@@ -5,10 +5,11 @@ use super::words::read_word;
 use crate::PlanLine;
 use crate::WordRead;
 use asm::Assembled;
-use grammar::Form;
 use plan::Plan;
 use plan::Verdict;
-use sheet_places::form_at;
+use sheet_places::line_kind_at;
+use text::LINE_FEED;
+use word::WORDS;
 ghost use mathlib.Core.List.{List, []};
 ghost use mathlib.Core.Path.{_≡_};
 ghost use Prim.Native.Nat.{ℕ, _≤_};
@@ -21,10 +22,6 @@ ghost use Rattle.assembler.specs.declared.PlanLine.the-variants.{Refused
 ghost use Rattle.asm.specs.Answers.{readingOf};
 ghost use Rattle.asm.specs.Reading.{ranged, readWords, readSheet, assembleOf, imageAfter};
 ghost use Rattle.assembler.specs.Walks.{linesFrom};
-
-const WORDS: usize = 96;
-
-const LINE_FEED: u8 = 10;
 
 // 11 and 12.
 fn judged(plan: Plan) -> Assembled
@@ -45,13 +42,13 @@ fn read_words(text: &[u8], from: usize, plan: Plan, words: &mut [u16]) -> Assemb
     let mut at = from;
     let mut k = 0;
     while k < WORDS {
-        let line = text_bytes::part_at(text, at, LINE_FEED);
-        let end = at + line.len();
-        let number = k as u16 + 4;
+        let part = text_bytes::part_at(text, at, LINE_FEED);
+        let end = at + part.len();
+        let line = k as u16 + 4;
         if end >= text.len() {
-            return unended(line, number);
+            return unended(part, line);
         }
-        match read_word(line, form_at(plan, k as u16), number) {
+        match read_word(part, line_kind_at(plan, k as u16), line) {
             WordRead::Word(w) => words[k] = w,
             WordRead::Refused(r) => return r,
         }
@@ -78,7 +75,7 @@ fn read_sheet(text: &[u8], words: &mut [u16]) -> Assembled
     requires { ⌜ length (now words) ≡ 96 ⌝ }
     ensures { λ r. ⌜ readingOf r (now (words .exit)) ≡ readSheet LP5523 (now (text .entry)) ⌝ }
 {
-    let line1 = read_plan(text, 0, Form::Engine1, 1);
+    let line1 = read_plan(text, 0, 1);
     let PlanLine::Plan {
         plan: engine1,
         next: at1,
@@ -86,7 +83,7 @@ fn read_sheet(text: &[u8], words: &mut [u16]) -> Assembled
     else {
         return plan_refusal(line1);
     };
-    let line2 = read_plan(text, at1, Form::Engine2, 2);
+    let line2 = read_plan(text, at1, 2);
     let PlanLine::Plan {
         plan: engine2,
         next: at2,
@@ -94,7 +91,7 @@ fn read_sheet(text: &[u8], words: &mut [u16]) -> Assembled
     else {
         return plan_refusal(line2);
     };
-    let line3 = read_plan(text, at2, Form::Engine3, 3);
+    let line3 = read_plan(text, at2, 3);
     let PlanLine::Plan {
         plan: engine3,
         next: at3,

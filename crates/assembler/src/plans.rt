@@ -2,24 +2,22 @@
 use super::refusals::refusal_at;
 use super::refusals::unended;
 use crate::PlanLine;
-use grammar::Form;
+use grammar::LineKind;
 use grammar::LineRead;
 use grammar::Values;
 use plan::EnginePlan;
+use text::LINE_FEED;
 use word::Address;
-ghost use mathlib.Core.List.{List, _∷_};
+ghost use mathlib.Core.List.{List};
 ghost use mathlib.Core.Path.{_≡_};
-ghost use Prim.Native.Nat.{ℕ, _+_, _≤_};
+ghost use Prim.Native.Nat.{ℕ, suc, _≤_};
 ghost use lib.ListN.{length};
 ghost use Rattle.word.specs.Profile.{LP5523};
 ghost use Rattle.plan.specs.declared.EnginePlan.{EnginePlan};
-ghost use Rattle.grammar.specs.declared.Form.{Form};
 ghost use Rattle.grammar.specs.Tables.{listOf};
 ghost use Rattle.asm.specs.PlanLines.{enginePlanOf};
 ghost use Rattle.asm.specs.Reading.{readPlans};
 ghost use Rattle.assembler.specs.Walks.{linesFrom, thenPlans, Within};
-
-const LINE_FEED: u8 = 10;
 
 // An engine's plan, from the values of its plan line.
 pub fn engine_plan(v: Values) -> EnginePlan
@@ -41,22 +39,22 @@ pub fn engine_plan(v: Values) -> EnginePlan
     }
 }
 
-// The plan line that begins at `at`, with its number in the sheet.
-pub(super) fn read_plan(text: &[u8], at: usize, form: Form, number: u16) -> PlanLine
+// The plan line that begins at `at`. Engine 1's is line 1, and so on.
+pub(super) fn read_plan(text: &[u8], at: usize, engine: u16) -> PlanLine
     requires { ⌜ at ≤ length (now text) ⌝ }
-    ensures { λ r. ⌜ ((fs : List Form) (qs : List EnginePlan) (ws : List ℕ) → thenPlans r (now (text .entry)) number fs qs ws ≡ readPlans LP5523 (form ∷ fs) number qs (linesFrom at (now (text .entry)))) ⌝ }
+    ensures { λ r. ⌜ ((n : ℕ) (qs : List EnginePlan) (ws : List ℕ) → thenPlans r (now (text .entry)) engine n qs ws ≡ readPlans LP5523 (suc n) engine qs (linesFrom at (now (text .entry)))) ⌝ }
     ensures { λ r. ⌜ Within r (now (text .entry)) ⌝ }
 {
-    let line = text_bytes::part_at(text, at, LINE_FEED);
-    let end = at + line.len();
+    let part = text_bytes::part_at(text, at, LINE_FEED);
+    let end = at + part.len();
     if end >= text.len() {
-        return PlanLine::Refused(unended(line, number));
+        return PlanLine::Refused(unended(part, engine));
     }
-    match line_reader::read_line(line, form) {
+    match line_reader::read_line(part, LineKind::Plan(engine)) {
         LineRead::Read(v) => PlanLine::Plan {
             plan: engine_plan(v),
             next: end + 1,
         },
-        LineRead::Refused(k) => PlanLine::Refused(refusal_at(k, number)),
+        LineRead::Refused(k) => PlanLine::Refused(refusal_at(k, engine)),
     }
 }

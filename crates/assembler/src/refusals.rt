@@ -1,15 +1,14 @@
 // Refusals of lines as the sheet's.
 use asm::Assembled;
-ghost use mathlib.Core.Logic.{_⊎_};
 ghost use mathlib.Core.List.{List};
 ghost use mathlib.Core.Path.{_≡_};
-ghost use Prim.Native.Nat.{ℕ};
+ghost use Prim.Native.Nat.{ℕ, _≤_};
 ghost use Rattle.asm.specs.Answers.{readingOf};
 ghost use Rattle.asm.specs.Reading.{refused-at, unended};
 
 // A line's refusal by its number.
 pub(super) fn refusal_at(number: u16, line: u16) -> Assembled
-    requires { ⌜ (number ≡ 20) ⊎ ((number ≡ 21) ⊎ (number ≡ 22)) ⌝ }
+    requires { ⌜ (20 ≤ number) × (number ≤ 22) ⌝ }
     ensures { λ r. ⌜ ((ws : List ℕ) → readingOf r ws ≡ refused-at number line) ⌝ }
 {
     match number {

@@ -10,7 +10,7 @@ use denote.Enum.Declared.{tagOf}
 use lib.ListN.{length, getD, drop, drop-of-length-le}
 use lib.Seq.{drop-cons}
 use Rattle.plan.specs.Verdict.{isAccept}
-use Rattle.text.specs.Bytes.{lineFeed, space, join}
+use Rattle.text.specs.Bytes.{lineFeed}
 use Rattle.word.specs.Profile.{Profile, LP5523}
 use Rattle.plan.specs.declared.EnginePlan.{EnginePlan}
 use Rattle.plan.specs.declared.EnginePlan.the-variants.{Unused, Code, CodeAndTable}
@@ -19,54 +19,45 @@ use Rattle.plan.specs.declared.Verdict.{Verdict}
 use Rattle.plan.specs.declared.Verdict.the-variants.{Accept}
 use Rattle.plan.specs.Ranges.{enginePlans}
 use Rattle.plan.specs.Tests.{inCode}
-use Rattle.grammar.specs.declared.Form.{Form}
-use Rattle.grammar.specs.declared.Form.the-variants.{Op, Engine1, Engine2, Engine3, Row, Spare}
+use Rattle.grammar.specs.declared.LineKind.the-variants.{Op, Row, Spare}
 use Rattle.grammar.proofs.Form.{the-type}
+use Rattle.grammar.specs.declared.LineKind.{LineKind}
+use Rattle.grammar.specs.declared.LineKind.the-variants as kind
+use Rattle.grammar.proofs.LineKind.{the-type}
 use Rattle.grammar.specs.Form.{continued, writeForm}
 use Rattle.grammar.specs.Grammar.{planForm, wordForm, writeParts, writeLine}
 use Rattle.grammar.specs.Tables.{valuesOf, listOf}
 use Rattle.op_lines.specs.Lines.{over}
 use Rattle.asm.specs.declared.Disassembled.the-variants.{Length, Refused, TooShort}
-use Rattle.asm.specs.Places.{inTable, anyHas, formAt}
+use Rattle.asm.specs.Places.{inTable, anyHas, lineKindAt}
 use Rattle.asm.specs.PlanLines.{planValues}
 use Rattle.asm.specs.Writing.{wordLine, planLines, wordLines, ended, sheetOf, writableOf, disassembleOf, bytesAfter}
-use Rattle.disassembler.specs.Walks.{IsPlanLine, IsWordLine}
+use Rattle.disassembler.specs.Walks.{IsWordLine}
 
 -- ---- lines
 
 -- values past those that a plan has are not written
-plan-parts : (j i : ℕ) (q : EnginePlan) → writeForm (planForm LP5523 j) (listOf (valuesOf (planValues i q))) ≡ writeForm (planForm LP5523 j) (planValues i q)
-unfolding writeForm continued planForm listOf valuesOf
-plan-parts j i Unused = refl
-plan-parts j i (Code f l) = refl
-plan-parts j i (CodeAndTable f l t b) = refl
-
-pub plan-line : (f : Form) (i : ℕ) (q : EnginePlan) → IsPlanLine f → writeLine LP5523 f (listOf (valuesOf (planValues i q))) ≡ writeLine LP5523 f (planValues i q)
-unfolding writeLine writeParts
-plan-line Op i q h = absurd h
-plan-line Engine1 i q h = ap (join space) (plan-parts 1 i q)
-plan-line Engine2 i q h = ap (join space) (plan-parts 2 i q)
-plan-line Engine3 i q h = ap (join space) (plan-parts 3 i q)
-plan-line Row i q h = absurd h
-plan-line Spare i q h = absurd h
+pub plan-line : (i : ℕ) (q : EnginePlan) → writeLine LP5523 (kind.Plan i) (listOf (valuesOf (planValues i q))) ≡ writeLine LP5523 (kind.Plan i) (planValues i q)
+unfolding writeLine writeParts writeForm continued planForm listOf valuesOf
+plan-line i Unused = refl
+plan-line i (Code f l) = refl
+plan-line i (CodeAndTable f l t b) = refl
 
 -- nor those past a word
-pub plain-line : (f : Form) (w : ℕ) → OneOf (1 ∷ 2 ∷ 3 ∷ 4 ∷ 5 ∷ []) (tagOf the-type f) → IsWordLine f
-    → writeLine LP5523 f (w ∷ 0 ∷ 0 ∷ 0 ∷ 0 ∷ 0 ∷ 0 ∷ []) ≡ wordLine LP5523 f w
+pub plain-line : (k : LineKind) (w : ℕ) → OneOf (1 ∷ 2 ∷ 3 ∷ []) (tagOf the-type k) → IsWordLine k
+    → writeLine LP5523 k (w ∷ 0 ∷ 0 ∷ 0 ∷ 0 ∷ 0 ∷ 0 ∷ []) ≡ wordLine LP5523 k w
 unfolding writeLine writeParts writeForm continued wordForm
-plain-line Op w h k = absurd (miss (1 ∷ 2 ∷ 3 ∷ 4 ∷ 5 ∷ []) 0 tt h)
-plain-line Engine1 w h k = absurd k
-plain-line Engine2 w h k = absurd k
-plain-line Engine3 w h k = absurd k
-plain-line Row w h k = refl
-plain-line Spare w h k = refl
+plain-line kind.Op w h is = absurd (miss (1 ∷ 2 ∷ 3 ∷ []) 0 tt h)
+plain-line (kind.Plan i) w h is = absurd is
+plain-line kind.Row w h is = refl
+plain-line kind.Spare w h is = refl
 
 -- at each address stands a word
-pub word-at : (P : Profile) (p : Plan) (a : ℕ) → IsWordLine (formAt P p a)
-unfolding formAt
+pub word-at : (P : Profile) (p : Plan) (a : ℕ) → IsWordLine (lineKindAt P p a)
+unfolding lineKindAt
 word-at P p a = go (anyHas inCode (enginePlans P p) a) (anyHas inTable (enginePlans P p) a)
   where
-    go : (b c : Bool) → IsWordLine (cond b Op (cond c Row Spare))
+    go : (b c : Bool) → IsWordLine (cond b kind.Op (cond c kind.Row kind.Spare))
     go true c = tt
     go false true = tt
     go false false = tt
@@ -83,11 +74,11 @@ module _ (P : Profile) (p : Plan) (image : List ℕ) (k : ℕ) where
   wordsFrom = ended (wordLines P p k (drop k image))
 
 pub words-step : (P : Profile) (p : Plan) (image : List ℕ) (k : ℕ) → k < length image
-    → wordsFrom P p image k ≡ (wordLine P (formAt P p k) (getD image k 0) ++ (lineFeed ∷ [])) ++ wordsFrom P p image (k + 1)
+    → wordsFrom P p image k ≡ (wordLine P (lineKindAt P p k) (getD image k 0) ++ (lineFeed ∷ [])) ++ wordsFrom P p image (k + 1)
 unfolding wordLines
 words-step P p image k h =
     ap (λ (ws : List ℕ). ended (wordLines P p k ws)) (drop-cons image k 0 h ∙ ap (λ (n : ℕ). getD image k 0 ∷ drop n image) (sym (add-one k)))
-    ∙ sym (ended-line (wordLine P (formAt P p k) (getD image k 0)) (wordLines P p (k + 1) (drop (k + 1) image)))
+    ∙ sym (ended-line (wordLine P (lineKindAt P p k) (getD image k 0)) (wordLines P p (k + 1) (drop (k + 1) image)))
 
 pub words-end : (P : Profile) (p : Plan) (image : List ℕ) (k : ℕ) → length image ≤ k → wordsFrom P p image k ≡ []
 unfolding ended wordLines
@@ -95,15 +86,15 @@ words-end P p image k h = ap (λ (ws : List ℕ). ended (wordLines P p k ws)) (d
 
 -- the three plan lines, then the words
 pub sheet-text : (p : Plan) (image : List ℕ)
-    → (writeLine LP5523 Engine1 (planValues 1 (p .engine1)) ++ (lineFeed ∷ []))
-    ++ ((writeLine LP5523 Engine2 (planValues 2 (p .engine2)) ++ (lineFeed ∷ []))
-    ++ ((writeLine LP5523 Engine3 (planValues 3 (p .engine3)) ++ (lineFeed ∷ [])) ++ ended (wordLines LP5523 p 0 image)))
+    → (writeLine LP5523 (kind.Plan 1) (planValues 1 (p .engine1)) ++ (lineFeed ∷ []))
+    ++ ((writeLine LP5523 (kind.Plan 2) (planValues 2 (p .engine2)) ++ (lineFeed ∷ []))
+    ++ ((writeLine LP5523 (kind.Plan 3) (planValues 3 (p .engine3)) ++ (lineFeed ∷ [])) ++ ended (wordLines LP5523 p 0 image)))
     ≡ sheetOf LP5523 p image
 unfolding sheetOf planLines
 sheet-text p image =
-    let l1 = writeLine LP5523 Engine1 (planValues 1 (p .engine1)) in
-    let l2 = writeLine LP5523 Engine2 (planValues 2 (p .engine2)) in
-    let l3 = writeLine LP5523 Engine3 (planValues 3 (p .engine3)) in
+    let l1 = writeLine LP5523 (kind.Plan 1) (planValues 1 (p .engine1)) in
+    let l2 = writeLine LP5523 (kind.Plan 2) (planValues 2 (p .engine2)) in
+    let l3 = writeLine LP5523 (kind.Plan 3) (planValues 3 (p .engine3)) in
     let ws = wordLines LP5523 p 0 image in
     ap (λ (r : List ℕ). (l1 ++ (lineFeed ∷ [])) ++ ((l2 ++ (lineFeed ∷ [])) ++ r)) (ended-line l3 ws)
     ∙ ap (λ (r : List ℕ). (l1 ++ (lineFeed ∷ [])) ++ r) (ended-line l2 (l3 ∷ ws))

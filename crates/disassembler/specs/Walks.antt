@@ -13,25 +13,17 @@ use Rattle.plan.specs.declared.Verdict.the-variants.{Accept, UndefinedWord}
 use Rattle.plan.specs.Ranges.{planAt}
 use Rattle.word.specs.Decode.{wordAt}
 use Rattle.plan.specs.internal.Passes.{orElse, scan}
-use Rattle.grammar.specs.declared.Form.{Form}
-use Rattle.grammar.specs.declared.Form.the-variants.{Op, Engine1, Engine2, Engine3, Row, Spare}
+use Rattle.grammar.specs.declared.LineKind.the-variants.{Op, Row, Spare}
+use Rattle.plan.specs.internal.Passes.{orElse, scan}
+use Rattle.grammar.specs.declared.LineKind.{LineKind}
+use Rattle.grammar.specs.declared.LineKind.the-variants as kind
 
--- The forms of plan lines and of word lines.
-abbrev pub IsPlanLine : Form → Type 0
-IsPlanLine Op = ⊥
-IsPlanLine Engine1 = Unit {0}
-IsPlanLine Engine2 = Unit {0}
-IsPlanLine Engine3 = Unit {0}
-IsPlanLine Row = ⊥
-IsPlanLine Spare = ⊥
-
-abbrev pub IsWordLine : Form → Type 0
-IsWordLine Op = Unit {0}
-IsWordLine Engine1 = ⊥
-IsWordLine Engine2 = ⊥
-IsWordLine Engine3 = ⊥
-IsWordLine Row = Unit {0}
-IsWordLine Spare = Unit {0}
+-- The kinds of word lines.
+abbrev pub IsWordLine : LineKind → Type 0
+IsWordLine kind.Op = Unit {0}
+IsWordLine (kind.Plan i) = ⊥
+IsWordLine kind.Row = Unit {0}
+IsWordLine kind.Spare = Unit {0}
 
 -- The first undefined word of n from address a upward, of an engine, and of the three.
 unfoldable pub definedFrom : Profile → ℕ → List ℕ → ℕ → ℕ → Verdict

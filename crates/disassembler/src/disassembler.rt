@@ -3,16 +3,14 @@ use super::plans::put_plan;
 use super::undefined::check_defined;
 use super::words::put_words;
 use asm::Disassembled;
-use grammar::Form;
 use plan::Plan;
 use plan::Verdict;
+use word::WORDS;
 ghost use mathlib.Core.Path.{_≡_};
 ghost use lib.ListN.{length};
 ghost use Rattle.text.specs.Put.{Put};
 ghost use Rattle.word.specs.Profile.{LP5523};
 ghost use Rattle.asm.specs.Writing.{sheetOf, writableOf, disassembleOf, bytesAfter};
-
-const WORDS: usize = 96;
 
 // What can be said against writing a plan and its image: 9, 11, 12, 13.
 fn check_writable(plan: Plan, image: &[u16]) -> Verdict
@@ -35,9 +33,9 @@ fn put_sheet(out: &mut [u8], plan: Plan, image: &[u16]) -> usize
     let q1 = plan.engine1;
     let q2 = plan.engine2;
     let q3 = plan.engine3;
-    let at2 = put_plan(out, 0, Form::Engine1, 1, q1);
-    let at3 = put_plan(out, at2, Form::Engine2, 2, q2);
-    let words = put_plan(out, at3, Form::Engine3, 3, q3);
+    let at2 = put_plan(out, 0, 1, q1);
+    let at3 = put_plan(out, at2, 2, q2);
+    let words = put_plan(out, at3, 3, q3);
     put_words(out, words, plan, image)
 }
 

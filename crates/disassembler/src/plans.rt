@@ -1,21 +1,17 @@
 // The plan lines of a sheet, written.
-use grammar::Form;
+use grammar::LineKind;
 use grammar::Values;
 use plan::EnginePlan;
+use text::LINE_FEED;
 ghost use mathlib.Core.List.{_∷_, [], _++_};
 ghost use mathlib.Core.Path.{_≡_};
-ghost use Prim.Native.Nat.{_+_};
 ghost use Rattle.text.specs.Bytes.{lineFeed};
 ghost use Rattle.text.specs.Put.{Put};
 ghost use Rattle.word.specs.Profile.{LP5523};
-ghost use Rattle.plan.specs.declared.EnginePlan.{EnginePlan};
-ghost use Rattle.grammar.specs.declared.Form.{Form};
+ghost use Rattle.grammar.specs.declared.LineKind.the-variants.{Plan};
 ghost use Rattle.grammar.specs.Grammar.{writeLine};
 ghost use Rattle.grammar.specs.Tables.{valuesOf};
 ghost use Rattle.asm.specs.PlanLines.{planValues};
-ghost use Rattle.disassembler.specs.Walks.{IsPlanLine};
-
-const LINE_FEED: u8 = 10;
 
 fn seven(a: u16, b: u16, c: u16, d: u16, e: u16, f: u16, g: u16) -> Values
     ensures { λ r. ⌜ r ≡ valuesOf (a ∷ b ∷ c ∷ d ∷ e ∷ f ∷ g ∷ []) ⌝ }
@@ -47,10 +43,10 @@ fn plan_values(engine: u16, q: EnginePlan) -> Values
 }
 
 // Writes a plan line with its LF.
-pub(super) fn put_plan(out: &mut [u8], at: usize, form: Form, engine: u16, q: EnginePlan) -> usize
-    requires { ⌜ IsPlanLine form ⌝ }
-    ensures { λ r. ⌜ Put (now (out .entry)) (now (out .exit)) (writeLine LP5523 form (planValues engine q) ++ (lineFeed ∷ [])) at r ⌝ }
+pub(super) fn put_plan(out: &mut [u8], at: usize, engine: u16, q: EnginePlan) -> usize
+    ensures { λ r. ⌜ Put (now (out .entry)) (now (out .exit)) (writeLine LP5523 (Plan engine) (planValues engine q) ++ (lineFeed ∷ [])) at r ⌝ }
 {
-    let next = line_writer::put_line(out, at, form, plan_values(engine, q));
+    let values = plan_values(engine, q);
+    let next = line_writer::put_line(out, at, LineKind::Plan(engine), values);
     text_bytes::put_byte(out, next, LINE_FEED)
 }

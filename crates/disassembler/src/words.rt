@@ -1,8 +1,9 @@
 // The word lines of a sheet, written.
-use grammar::Form;
+use grammar::LineKind;
 use grammar::Values;
 use plan::Plan;
-use sheet_places::form_at;
+use sheet_places::line_kind_at;
+use text::LINE_FEED;
 ghost use mathlib.Core.List.{_∷_, [], _++_};
 ghost use mathlib.Core.Path.{_≡_};
 ghost use lib.ListN.{length};
@@ -12,14 +13,12 @@ ghost use Rattle.word.specs.Profile.{LP5523};
 ghost use Rattle.asm.specs.Writing.{wordLine, wordLines, ended};
 ghost use Rattle.disassembler.specs.Walks.{IsWordLine};
 
-const LINE_FEED: u8 = 10;
-
 // Writes a word's line with its LF.
-fn put_word(out: &mut [u8], at: usize, form: Form, code: u16) -> usize
-    requires { ⌜ IsWordLine form ⌝ }
-    ensures { λ r. ⌜ Put (now (out .entry)) (now (out .exit)) (wordLine LP5523 form code ++ (lineFeed ∷ [])) at r ⌝ }
+fn put_word(out: &mut [u8], at: usize, kind: LineKind, code: u16) -> usize
+    requires { ⌜ IsWordLine kind ⌝ }
+    ensures { λ r. ⌜ Put (now (out .entry)) (now (out .exit)) (wordLine LP5523 kind code ++ (lineFeed ∷ [])) at r ⌝ }
 {
-    if let Form::Op = form {
+    if let LineKind::Op = kind {
         let end = op_codec::put_op_line(out, at, code);
         return text_bytes::put_byte(out, end, LINE_FEED);
     }
@@ -32,7 +31,7 @@ fn put_word(out: &mut [u8], at: usize, form: Form, code: u16) -> usize
         f: 0,
         g: 0,
     };
-    let end = line_writer::put_line(out, at, form, v);
+    let end = line_writer::put_line(out, at, kind, v);
     text_bytes::put_byte(out, end, LINE_FEED)
 }
 
@@ -45,7 +44,7 @@ pub(super) fn put_words(out: &mut [u8], at: usize, plan: Plan, image: &[u16]) ->
     let mut k = 0;
     while k < image.len() {
         let code = image[k];
-        next = put_word(out, next, form_at(plan, k as u16), code);
+        next = put_word(out, next, line_kind_at(plan, k as u16), code);
         k += 1;
     }
     next

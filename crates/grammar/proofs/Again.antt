@@ -7,7 +7,7 @@ use native.Mathlib.Omega.{arith}
 use borrow.Author.Tests.{le-leb, lt-ltb}
 use lib.Dec.{eqb}
 use lib.ListN.{length}
-use Rattle.text.specs.Bytes.{equalsSign, valueOf, isWord}
+use Rattle.text.specs.Bytes.{equalsSign, valueOf, isKeyword}
 use Rattle.text.specs.Number.{isNumber, readNumber}
 use Rattle.text.specs.declared.Decimal.{Decimal}
 use Rattle.text.specs.declared.Decimal.the-variants as decimal
@@ -16,9 +16,9 @@ use Rattle.text.proofs.Theorems.{not-shortened, read-writes}
 use Rattle.word.specs.Field.{inside}
 use Rattle.word.specs.Profile.{Range}
 use Rattle.grammar.specs.declared.Value.the-variants.{Number, Malformed, Outside}
-use Rattle.grammar.specs.Form.{Kind, number, word, decision, answers, Pair, Reading, values, readWord, held, readValue, readPair, atEnd, readForm, writeValue, writePair, continued, writeForm}
+use Rattle.grammar.specs.Form.{Kind, number, decision, answers, Pair, Reading, values, held, readValue, readPair, atEnd, readForm, writeValue, writePair, continued, writeForm, keyword, readKeyword}
 use Rattle.grammar.specs.Theorems.{fitsKind, isEmpty, fitsAfter, fitsForm}
-use Rattle.grammar.proofs.Places.{malformed-number, outside-number, chosen, word-read}
+use Rattle.grammar.proofs.Places.{malformed-number, outside-number, chosen, keyword-read}
 use Rattle.grammar.proofs.Steps.{refused-values, onward, end-values, form-first}
 
 -- ---- a value
@@ -37,18 +37,18 @@ unfolding readValue writeValue
 value-read (number rs) n v e =
     let h = held-number rs (readNumber 65535 v) n e in
     (read-writes 65535 v n (omega arith) (h .0), rw (le-leb n 65535 (not-shortened 65535 v n (h .0) .1), h .1))
-value-read (word ws) n v e =
-    let h = word-read ws n v e in
+value-read (keyword ws) n v e =
+    let h = keyword-read ws n v e in
     (h .0, lt-ltb n (length ws) (h .1))
 value-read decision n v e =
-    let h = word-read answers n v e in
+    let h = keyword-read answers n v e in
     (h .0, lt-ltb n (length answers) (h .1))
 
 -- nothing is no value of any kind
 value-empty : (k : Kind) → readValue k [] ≡ Malformed
-unfolding readValue held readNumber isNumber readWord isWord
+unfolding readValue held readNumber isNumber readKeyword isKeyword
 value-empty (number rs) = refl
-value-empty (word ws) = refl
+value-empty (keyword ws) = refl
 value-empty decision = refl
 
 pub pair-read : (f : Pair) (n : ℕ) (p : List ℕ) → readPair f p ≡ Number n → (writePair f n ≡ p) × (fitsKind (f .kind) n ≡ true)
@@ -66,7 +66,7 @@ onward-read : (k : Kind) (n : ℕ) (ms : List ℕ) (r : Reading) (ps qs : List (
     → (r ≡ values ms → (qs ≡ ps) × (b ≡ true)) → onward k n r ps ≡ values ms → (continued k n qs ≡ ps) × (fitsAfter k n b ms ≡ true)
 unfolding continued
 onward-read (number rs) n ms r ps qs b h e = h e
-onward-read (word ws) n ms r ps qs b h e = h e
+onward-read (keyword ws) n ms r ps qs b h e = h e
 onward-read decision n ms r ps qs b h e = go (eqb n 0) e
   where
     go : (t : Bool) → cond t r (atEnd ps) ≡ values ms → (cond t qs [] ≡ ps) × (cond t b (isEmpty ms) ≡ true)

@@ -11,11 +11,11 @@ use Rattle.text.proofs.Values.{pair-value}
 use Rattle.text.proofs.Theorems.{written-reads}
 use Rattle.word.specs.Field.{inside}
 use Rattle.grammar.specs.declared.Value.the-variants.{Number}
-use Rattle.grammar.specs.Form.{Kind, number, word, decision, answers, Pair, Reading, values, held, readValue, readPair, before, atEnd, readForm, writeValue, writePair, continued, writeForm}
+use Rattle.grammar.specs.Form.{Kind, number, keyword, decision, answers, Pair, Reading, values, held, readValue, readPair, before, atEnd, readForm, writeValue, writePair, continued, writeForm}
 use Rattle.grammar.specs.Theorems.{fitsKind, isEmpty, fitsAfter, fitsForm}
-use Rattle.grammar.proofs.Places.{word-written}
+use Rattle.grammar.proofs.Places.{keyword-written}
 use Rattle.grammar.proofs.Steps.{onward, empty-values, form-step}
-use Rattle.grammar.proofs.Sound.{sound-words, soundKind, soundPair, soundForm, sound-pair}
+use Rattle.grammar.proofs.Sound.{sound-keywords, soundKind, soundPair, soundForm, sound-pair}
 
 pub value-written : (k : Kind) (n : ℕ) → soundKind k ≡ true → fitsKind k n ≡ true → readValue k (writeValue k n) ≡ Number n
 unfolding readValue writeValue held soundKind
@@ -23,8 +23,8 @@ value-written (number rs) n h e =
     let q = and-eq-true-iff (leb n 65535) (inside rs n) .0 e in
     let l = leb-true n 65535 (q .0) in
     ap (held rs) (written-reads 65535 n l (omega arith)) ∙ rw (q .1)
-value-written (word ws) n h e = word-written ws n (sound-words ws h .1) (ltb-true n (length ws) e)
-value-written decision n h e = word-written answers n (sound-words answers h .1) (ltb-true n (length answers) e)
+value-written (keyword ws) n h e = keyword-written ws n (sound-keywords ws h .1) (ltb-true n (length ws) e)
+value-written decision n h e = keyword-written answers n (sound-keywords answers h .1) (ltb-true n (length answers) e)
 
 pub pair-written : (f : Pair) (n : ℕ) → soundPair f ≡ true → fitsKind (f .kind) n ≡ true → readPair f (writePair f n) ≡ Number n
 unfolding readPair writePair
@@ -35,7 +35,7 @@ onward-written : (k : Kind) (n : ℕ) (ns : List ℕ) (read : List (List ℕ) �
     → (b ≡ true → read qs ≡ values ns) → fitsAfter k n b ns ≡ true → onward k n (read (continued k n qs)) (continued k n qs) ≡ values ns
 unfolding continued atEnd
 onward-written (number rs) n ns read qs b h e = h e
-onward-written (word ws) n ns read qs b h e = h e
+onward-written (keyword ws) n ns read qs b h e = h e
 onward-written decision n ns read qs b h e = go (eqb n 0) e
   where
     go : (t : Bool) → cond t b (isEmpty ns) ≡ true → cond t (read (cond t qs [])) (atEnd (cond t qs [])) ≡ values ns

@@ -26,35 +26,35 @@ one-number e q =
 
 pub refuses-exactly : RefusesExactly
 unfolding readLine
-refuses-exactly P f line = go (line-judged P f (split space line))
+refuses-exactly P k line h = go (line-judged P k (split space line) h)
   where
-    go : Judged (LineWellFormed P f (split space line)) (LineUnknown P f (split space line)) (LineOutside P f (split space line)) (readLine P f line)
-        → Exactly P f line
+    go : Judged (LineWellFormed P k (split space line)) (LineUnknown P k (split space line)) (LineOutside P k (split space line)) (readLine P k line)
+        → Exactly P k line
     go (passes ns e w u o) = record {
       isRead = λ ms q. (w, u, o);
       is20 = neither (λ q. refused-values (sym q ∙ e)) (λ n. n w);
       is21 = neither (λ q. refused-values (sym q ∙ e)) (λ h. u (h .1));
       is22 = neither (λ q. refused-values (sym q ∙ e)) (λ h. o (h .2));
-      others = λ k q. absurd (refused-values (sym q ∙ e));
+      others = λ n q. absurd (refused-values (sym q ∙ e));
     }
     go (refuses20 e n) = record {
       isRead = λ ms q. absurd (refused-values (sym e ∙ q));
       is20 = both e n;
       is21 = neither (λ q. omega (arith, one-number e q)) (λ h. n (h .0));
       is22 = neither (λ q. omega (arith, one-number e q)) (λ h. n (h .0));
-      others = λ k q. inl (one-number e q);
+      others = λ n q. inl (one-number e q);
     }
     go (refuses21 e w u) = record {
       isRead = λ ms q. absurd (refused-values (sym e ∙ q));
       is20 = neither (λ q. omega (arith, one-number e q)) (λ n. n w);
       is21 = both e (w, u);
       is22 = neither (λ q. omega (arith, one-number e q)) (λ h. h .1 u);
-      others = λ k q. inr (inl (one-number e q));
+      others = λ n q. inr (inl (one-number e q));
     }
     go (refuses22 e w u o) = record {
       isRead = λ ms q. absurd (refused-values (sym e ∙ q));
       is20 = neither (λ q. omega (arith, one-number e q)) (λ n. n w);
       is21 = neither (λ q. omega (arith, one-number e q)) (λ h. u (h .1));
       is22 = both e (w, u, o);
-      others = λ k q. inr (inr (one-number e q));
+      others = λ n q. inr (inr (one-number e q));
     }

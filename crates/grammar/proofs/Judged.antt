@@ -38,7 +38,7 @@ end-judged (p ∷ ps) = refuses20 refl (λ e. filled (ap length e))
     filled : length (p ∷ ps) ≡ 0 → ⊥
     filled e = omega arith
 
--- only pairs, after a word that is unknown: n is the number where they are well-formed
+-- only pairs, after a keyword that is unknown: n is the number where they are well-formed
 pub unknown-judged : (n : ℕ) (ps : List (List ℕ)) {s o : Type 0}
     → Judged (true ≡ true) s o (refused n) → Judged (allPairs ps ≡ true) s o (unknown n ps)
 unfolding unknown
@@ -81,7 +81,7 @@ module _ {w o : Type 0} {r : Reading} where
       in-words besides (λ h. inr (refl, h), ⊎-elim (λ e. absurd (true≢false e)) (λ h. h .1)) (number-before n j)
   before-judged true false n j = in-words besides Iff·rfl (outside-before (inl refl) j)
 
--- a word or none, and one that is yes, or no, or another: after a yes r is what the rest of the line is, after a no the line has to end
+-- a keyword or none, and one that is yes, or no, or another: after a yes r is what the rest of the line is, after a no the line has to end
 pub decided-judged : {w o : Type 0} {r : Reading} (a y n : Bool) (ps : List (List ℕ)) → Judged w ⊥ o r
     → Judged ((a ≡ true) × cond y w (cond n (ps ≡ []) (allPairs ps ≡ true))) ⊥ ((cond y true (cond n true false) ≡ false) ⊎ ((y ≡ true) × o))
     (decided (cond a (cond y (Number 0) (cond n (Number 1) Outside)) Malformed) r ps)

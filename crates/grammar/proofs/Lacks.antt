@@ -12,9 +12,9 @@ use Rattle.text.specs.Number.{isDigit}
 use Rattle.text.specs.Theorems.{allLack}
 use Rattle.text.proofs.Numerals.{decimal-lacks}
 use Rattle.text.proofs.Values.{pair-lacks}
-use Rattle.grammar.specs.Form.{Kind, number, word, decision, answers, Pair, writeValue, writePair, continued, writeForm}
+use Rattle.grammar.specs.Form.{Kind, number, keyword, decision, answers, Pair, writeValue, writePair, continued, writeForm}
 use Rattle.grammar.proofs.Every.{every-at}
-use Rattle.grammar.proofs.Sound.{printed, sound-words, soundWords, soundKind, soundPair, soundForm, sound-pair}
+use Rattle.grammar.proofs.Sound.{printed, sound-keywords, soundKeywords, soundKind, soundPair, soundForm, sound-pair}
 
 module _ (d : ℕ) (low : d ≤ space) where
   printed-lacks : (s : List ℕ) → printed s ≡ true → lacks d s ≡ true
@@ -29,14 +29,14 @@ module _ (d : ℕ) (low : d ≤ space) where
   unfolding isDigit
   no-digit = rw (lt-leb 48 d (omega arith))
 
-  word-lacks : (ws : List (List ℕ)) (n : ℕ) → soundWords ws ≡ true → lacks d (getD ws n []) ≡ true
-  word-lacks ws n h = printed-lacks (getD ws n []) (every-at printed ws [] n (sound-words ws h .0) refl)
+  keyword-lacks : (ws : List (List ℕ)) (n : ℕ) → soundKeywords ws ≡ true → lacks d (getD ws n []) ≡ true
+  keyword-lacks ws n h = printed-lacks (getD ws n []) (every-at printed ws [] n (sound-keywords ws h .0) refl)
 
   pub value-lacks : (k : Kind) (n : ℕ) → soundKind k ≡ true → lacks d (writeValue k n) ≡ true
   unfolding writeValue soundKind
   value-lacks (number rs) n h = decimal-lacks d n no-digit
-  value-lacks (word ws) n h = word-lacks ws n h
-  value-lacks decision n h = word-lacks answers n h
+  value-lacks (keyword ws) n h = keyword-lacks ws n h
+  value-lacks decision n h = keyword-lacks answers n h
 
   pub part-lacks : (f : Pair) (n : ℕ) → soundPair f ≡ true → lacks d (writePair f n) ≡ true
   unfolding writePair
@@ -47,7 +47,7 @@ module _ (d : ℕ) (low : d ≤ space) where
   continued-lacks : (k : Kind) (n : ℕ) (ps : List (List ℕ)) → allLack d ps ≡ true → allLack d (continued k n ps) ≡ true
   unfolding continued
   continued-lacks (number rs) n ps h = h
-  continued-lacks (word ws) n ps h = h
+  continued-lacks (keyword ws) n ps h = h
   continued-lacks decision n ps h = go (eqb n 0)
     where
       go : (t : Bool) → allLack d (cond t ps []) ≡ true

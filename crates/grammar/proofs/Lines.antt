@@ -11,8 +11,8 @@ use Rattle.text.specs.Theorems.{allLack}
 use Rattle.word.specs.Profile.{Profile, LP5523}
 use Rattle.grammar.specs.declared.Value.{Value}
 use Rattle.grammar.specs.declared.Value.the-variants.{Number, Malformed, Outside}
-use Rattle.grammar.specs.declared.Form.{Form}
-use Rattle.grammar.specs.declared.Form.the-variants.{Op, Engine1, Engine2, Engine3, Row, Spare}
+use Rattle.grammar.specs.declared.LineKind.{LineKind}
+use Rattle.grammar.specs.declared.LineKind.the-variants.{Op, Plan, Row, Spare}
 use Rattle.grammar.specs.Form.{Pair, Reading, values, readValue, readPair, before, unknown, readForm, writeValue, writePair, writeForm}
 use Rattle.grammar.specs.Grammar.{opLines, planForm, opNames, opForm, wordForm, named, readOp, readParts, writeOp, writeParts}
 use Rattle.grammar.specs.Theorems.{fitsForm, fitsOp, fitsLine}
@@ -91,11 +91,9 @@ op-matched P = record { again = op-read P; back = op-written P; lack = op-lacks 
 
 -- ---- every line
 
-pub line-matched : (P : Profile) (f : Form) → Matched (readParts P f) (writeParts P f) (fitsLine P f)
+pub line-matched : (P : Profile) (k : LineKind) → Matched (readParts P k) (writeParts P k) (fitsLine P k)
 unfolding readParts writeParts fitsLine planForm wordForm
 line-matched P Op = op-matched P
-line-matched P Engine1 = form-matched (planForm P 1) (sound-plan P 1) (omega arith)
-line-matched P Engine2 = form-matched (planForm P 2) (sound-plan P 2) (omega arith)
-line-matched P Engine3 = form-matched (planForm P 3) (sound-plan P 3) (omega arith)
+line-matched P (Plan i) = form-matched (planForm P i) (sound-plan P i) (omega arith)
 line-matched P Row = form-matched (wordForm "row") (sound-word "row" refl) (omega arith)
 line-matched P Spare = form-matched (wordForm "spare") (sound-word "spare" refl) (omega arith)

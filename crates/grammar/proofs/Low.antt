@@ -13,7 +13,7 @@ use Rattle.word.specs.Profile.{Profile, LP5523, Range}
 use Rattle.word.specs.Field.{inside}
 use Rattle.word.proofs.Fields.{above-range}
 use Rattle.grammar.specs.declared.Value.the-variants.{Number, Malformed, Outside}
-use Rattle.grammar.specs.Form.{Kind, number, word, decision, Pair, held}
+use Rattle.grammar.specs.Form.{Kind, number, keyword, decision, Pair, held}
 use Rattle.grammar.specs.Grammar.{OpLine, opLines, planForm, opForm, wordForm}
 use Rattle.grammar.proofs.Every.{every, every-at}
 
@@ -22,7 +22,7 @@ lowRanges rs = every (λ (r : Range). leb (r .most) 65535) rs
 
 abbrev pub lowKind : Kind → Bool
 lowKind (number rs) = lowRanges rs
-lowKind (word ws) = true
+lowKind (keyword ws) = true
 lowKind decision = true
 
 abbrev pub lowForm : List Pair → Bool

@@ -19,24 +19,24 @@ use Rattle.word.specs.Field.{inside, upto}
 use Rattle.word.specs.Profile.{Range, _to_}
 use Rattle.grammar.specs.declared.Value.{Value}
 use Rattle.grammar.specs.declared.Value.the-variants.{Number, Malformed, Outside}
-use Rattle.grammar.specs.Form.{Kind, number, word, decision, Pair, held, readWord, readValue}
-use Rattle.grammar.specs.Tables.{kindAt, rangesIn, rangesAt, pairAt, stopsAt}
+use Rattle.grammar.specs.Form.{Kind, number, keyword, decision, Pair, held, readKeyword, readValue}
+use Rattle.grammar.specs.Tables.{numberKinds, kindCount, decisionKind, pairCount, kindAt, rangesIn, rangesAt, pairAt, stopsAt}
 use Rattle.grammar.proofs.Value as values
-use Rattle.grammar.proofs.Tables.{low, high, alsoLow, alsoHigh, rangeTable, range-again, wordTable, kind-is, answers-are, pairKind, pair-is, pair-kinds}
+use Rattle.grammar.proofs.Tables.{low, high, alsoLow, alsoHigh, rangeTable, range-again, keywordTable, kind-is, answers-are, pairKind, pair-is, pair-kinds}
 
 -- ---- the ranges of a kind
 
-pub kind-number : (k : ℕ) → k < 12 → kindAt k ≡ number (rangeTable k)
-kind-number k h = kind-is k (omega arith) ∙ rw (lt-ltb k 12 h)
+pub kind-number : (k : ℕ) → k < numberKinds → kindAt k ≡ number (rangeTable k)
+kind-number k h = kind-is k (omega arith) ∙ rw (lt-ltb k numberKinds h)
 
-kind-words : (k : ℕ) → 12 ≤ k → k < 16 → kindAt k ≡ cond (ltb k 15) (word (wordTable (k - 12))) decision
-kind-words k l h = kind-is k h ∙ rw (le-ltb k 12 l)
+kind-keywords : (k : ℕ) → numberKinds ≤ k → k < kindCount → kindAt k ≡ cond (ltb k decisionKind) (keyword (keywordTable (k - numberKinds))) decision
+kind-keywords k l h = kind-is k h ∙ rw (le-ltb k numberKinds l)
 
 -- whether a number lies in a range
 abbrev lies : ℕ → ℕ → ℕ → Bool
 lies a b n = leb a n && leb n b
 
-module _ (k n : ℕ) (small : k < 12) where
+module _ (k n : ℕ) (small : k < numberKinds) where
   abbrev a : ℕ
   a = getD low k 0
 
@@ -101,12 +101,12 @@ other-value P m o Malformed h = m
 other-value P m o Outside h = o
 
 -- a value held to narrower ranges
-abbrev pub narrowed : List Range → Value → Value
+abbrev narrowed : List Range → Value → Value
 narrowed rs (Number n) = cond (inside rs n) (Number n) Outside
 narrowed rs Malformed = Malformed
 narrowed rs Outside = Outside
 
-pub held-narrowed : (rs : List Range) (v : List ℕ) → narrowed rs (held (upto 65535) (readNumber 65535 v)) ≡ held rs (readNumber 65535 v)
+held-narrowed : (rs : List Range) (v : List ℕ) → narrowed rs (held (upto 65535) (readNumber 65535 v)) ≡ held rs (readNumber 65535 v)
 unfolding held
 held-narrowed rs v = go (readNumber 65535 v) refl
   where
@@ -115,43 +115,67 @@ held-narrowed rs v = go (readNumber 65535 v) refl
     go decimal.Malformed e = refl
     go decimal.Outside e = refl
 
+-- a number of 16 bits, narrowed to ranges: v is what was read of it
+module _ (rs : List Range) (s : List ℕ) {v : Value} (is : v ≡ held (upto 65535) (readNumber 65535 s)) where
+  pub narrow-number : {n : ℕ} → v ≡ Number n → (t : Bool) → inside rs n ≡ t → cond t (Number n) Outside ≡ held rs (readNumber 65535 s)
+  narrow-number {n} e t h =
+      ap (λ (b : Bool). cond b (Number n) Outside) (sym h) ∙ ap (narrowed rs) (sym e ∙ is) ∙ held-narrowed rs s
+
+  pub narrow-other : OneOf (1 ∷ 2 ∷ []) (tagOf values.the-type v) → v ≡ held rs (readNumber 65535 s)
+  narrow-other h = other-value (λ (w : Value). w ≡ narrowed rs w) refl refl v h ∙ ap (narrowed rs) is ∙ held-narrowed rs s
+
+-- a range of one number
+pub in-one : (i : ℕ) → inside (i to i ∷ []) i ≡ true
+unfolding inside
+in-one i = rw (le-leb i i (omega arith))
+
+pub out-one : (i n : ℕ) → (n ≡ i → ⊥) → inside (i to i ∷ []) n ≡ false
+unfolding inside
+out-one i n h = go (ltb n i) refl
+  where
+    go : (t : Bool) → ltb n i ≡ t → inside (i to i ∷ []) n ≡ false
+    go true q = rw (lt-leb i n (ltb-true n i q))
+    go false q =
+        let l = ltb-false n i q in
+        rw (le-leb i n l, lt-leb n i (omega arith))
+
 -- ---- values by their kinds
 
 module _ (k : ℕ) (v : List ℕ) where
-  pub number-value : k < 12 → readValue (kindAt k) v ≡ held (rangesAt k) (readNumber 65535 v)
+  pub number-value : k < numberKinds → readValue (kindAt k) v ≡ held (rangesAt k) (readNumber 65535 v)
   unfolding readValue rangesAt
   number-value h = go (kindAt k) (kind-number k h)
     where
       go : (x : Kind) → x ≡ number (rangeTable k) → readValue x v ≡ held (rangesIn x) (readNumber 65535 v)
       go x e = ap (λ (y : Kind). readValue y v) e ∙ ap (λ (y : Kind). held (rangesIn y) (readNumber 65535 v)) (sym e)
 
-  -- yes and no are words too
-  pub word-value : 12 ≤ k → k < 16 → readValue (kindAt k) v ≡ readWord (wordTable (k - 12)) v
+  -- yes and no are keywords too
+  pub keyword-value : numberKinds ≤ k → k < kindCount → readValue (kindAt k) v ≡ readKeyword (keywordTable (k - numberKinds)) v
   unfolding readValue
-  word-value l h = ap (λ (x : Kind). readValue x v) (kind-words k l h) ∙ go (ltb k 15) refl
+  keyword-value l h = ap (λ (x : Kind). readValue x v) (kind-keywords k l h) ∙ go (ltb k decisionKind) refl
     where
-      go : (t : Bool) → ltb k 15 ≡ t → readValue (cond t (word (wordTable (k - 12))) decision) v ≡ readWord (wordTable (k - 12)) v
+      go : (t : Bool) → ltb k decisionKind ≡ t → readValue (cond t (keyword (keywordTable (k - numberKinds))) decision) v ≡ readKeyword (keywordTable (k - numberKinds)) v
       go true q = refl
       go false q =
-          let m = ltb-false k 15 q in
-          let z : 3 ≡ k - 12 = omega arith in
-          ap (λ (ws : List (List ℕ)). readWord ws v) (answers-are ∙ ap wordTable z)
+          let m = ltb-false k decisionKind q in
+          let z : 3 ≡ k - numberKinds = omega arith in
+          ap (λ (ws : List (List ℕ)). readKeyword ws v) (answers-are ∙ ap keywordTable z)
 
 -- ---- where a yes or no lets no pair follow
 
 -- no other kind stops a line
-goes-on : (k : ℕ) (v : Value) → k < 16 → (k ≡ 15 → ⊥) → stopsAt (kindAt k) v ≡ false
+goes-on : (k : ℕ) (v : Value) → k < kindCount → (k ≡ decisionKind → ⊥) → stopsAt (kindAt k) v ≡ false
 unfolding stopsAt
-goes-on k v h n = go (ltb k 12) refl
+goes-on k v h n = go (ltb k numberKinds) refl
   where
-    go : (t : Bool) → ltb k 12 ≡ t → stopsAt (kindAt k) v ≡ false
-    go true q = ap (λ (x : Kind). stopsAt x v) (kind-number k (ltb-true k 12 q))
+    go : (t : Bool) → ltb k numberKinds ≡ t → stopsAt (kindAt k) v ≡ false
+    go true q = ap (λ (x : Kind). stopsAt x v) (kind-number k (ltb-true k numberKinds q))
     go false q =
-        ap (λ (x : Kind). stopsAt x v) (kind-words k (ltb-false k 12 q) h)
-        ∙ ap (λ (t : Bool). stopsAt (cond t (word (wordTable (k - 12))) decision) v) (lt-ltb k 15 (omega arith))
+        ap (λ (x : Kind). stopsAt x v) (kind-keywords k (ltb-false k numberKinds q) h)
+        ∙ ap (λ (t : Bool). stopsAt (cond t (keyword (keywordTable (k - numberKinds))) decision) v) (lt-ltb k decisionKind (omega arith))
 
-decision-is : kindAt 15 ≡ decision
-decision-is = kind-is 15 (omega arith)
+decision-is : kindAt decisionKind ≡ decision
+decision-is = kind-is decisionKind (omega arith)
 
 -- what is no number stops it
 pub stops-other : (v : Value) → OneOf (1 ∷ 2 ∷ []) (tagOf values.the-type v) → stopsAt decision v ≡ true
@@ -159,12 +183,12 @@ unfolding stopsAt
 stops-other = other-value (λ (v : Value). stopsAt decision v ≡ true) refl refl
 
 -- by the kind of a pair, from the table
-stops-by : (k : ℕ) (v : Value) → k < 71 → stopsAt (pairAt k .kind) v ≡ stopsAt (kindAt (getD pairKind k 0)) v
+stops-by : (k : ℕ) (v : Value) → k < pairCount → stopsAt (pairAt k .kind) v ≡ stopsAt (kindAt (getD pairKind k 0)) v
 stops-by k v h = ap (λ (p : Pair). stopsAt (p .kind) v) (pair-is k h)
 
-pub stops-decision : (k : ℕ) (v : Value) → k < 71 → getD pairKind k 0 ≡ 15 → stopsAt (pairAt k .kind) v ≡ stopsAt decision v
+pub stops-decision : (k : ℕ) (v : Value) → k < pairCount → getD pairKind k 0 ≡ decisionKind → stopsAt (pairAt k .kind) v ≡ stopsAt decision v
 stops-decision k v h e = stops-by k v h ∙ ap (λ (x : Kind). stopsAt x v) (ap kindAt e ∙ decision-is)
 
 -- a pair of another kind lets the next follow
-pub stops-not : (k : ℕ) (v : Value) → k < 71 → (getD pairKind k 0 ≡ 15 → ⊥) → stopsAt (pairAt k .kind) v ≡ false
+pub stops-not : (k : ℕ) (v : Value) → k < pairCount → (getD pairKind k 0 ≡ decisionKind → ⊥) → stopsAt (pairAt k .kind) v ≡ false
 stops-not k v h n = stops-by k v h ∙ goes-on (getD pairKind k 0) v (pair-kinds k h) n

@@ -1,18 +1,18 @@
--- The first place where a word stands: the place that is read, and that of the form which a name asks for.
+-- The first place where a keyword stands: the place that is read, and that of the form which a name asks for.
 use Prim.Native.Nat.{ℕ, zero, suc, _+_}
 use mathlib.Core.Bool.{Bool, true, false, cond}
 use mathlib.Core.List.{List, [], _∷_, map}
 use mathlib.Core.Path.{_≡_, refl, ap, _∙_}
 use native.Mathlib.Omega.{arith}
 use lib.ListN.{getD}
-use Rattle.text.specs.Bytes.{same, isWord}
+use Rattle.text.specs.Bytes.{same, isKeyword}
 use Rattle.grammar.specs.declared.Value.{Value}
 use Rattle.grammar.specs.declared.Value.the-variants.{Number, Malformed, Outside}
-use Rattle.grammar.specs.Form.{Pair, placeOf, readWord}
+use Rattle.grammar.specs.Form.{Pair, placeOf, readKeyword}
 use Rattle.grammar.specs.Grammar.{OpLine}
 use Rattle.grammar.specs.Conditions.{among, form, none, formNamed}
 
--- Counted from 0; past the last where the word isn't there.
+-- Counted from 0; past the last where the keyword isn't there.
 abbrev pub spot : List (List ℕ) → List ℕ → ℕ
 spot [] v = zero
 spot (w ∷ ws) v = cond (same v w) zero (suc (spot ws v))
@@ -27,10 +27,10 @@ place-is (w ∷ ws) i v = go (same v w) (place-is ws (i + 1) v ∙ ap (λ (n : �
     go true e = ap Number (omega arith)
     go false e = e
 
--- what a word is read as
-pub word-is : (ws : List (List ℕ)) (v : List ℕ) → readWord ws v ≡ cond (isWord v) (cond (among ws v) (Number (spot ws v)) Outside) Malformed
-unfolding readWord
-word-is ws v = ap (λ (d : Value). cond (isWord v) d Malformed) (place-is ws 0 v ∙ ap (λ (n : ℕ). cond (among ws v) (Number n) Outside) (omega arith))
+-- what a keyword is read as
+pub keyword-is : (ws : List (List ℕ)) (v : List ℕ) → readKeyword ws v ≡ cond (isKeyword v) (cond (among ws v) (Number (spot ws v)) Outside) Malformed
+unfolding readKeyword
+keyword-is ws v = ap (λ (d : Value). cond (isKeyword v) d Malformed) (place-is ws 0 v ∙ ap (λ (n : ℕ). cond (among ws v) (Number n) Outside) (omega arith))
 
 -- ---- the lines of operations
 

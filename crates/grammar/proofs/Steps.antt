@@ -7,7 +7,7 @@ use native.Mathlib.Omega.{arith}
 use lib.Dec.{eqb}
 use Rattle.grammar.specs.declared.Value.{Value}
 use Rattle.grammar.specs.declared.Value.the-variants.{Number, Malformed, Outside}
-use Rattle.grammar.specs.Form.{Kind, number, word, decision, Pair, Reading, values, refused, readPair, before, unknown, atEnd, decided, followed, readForm}
+use Rattle.grammar.specs.Form.{Kind, number, keyword, decision, Pair, Reading, values, refused, readPair, before, unknown, atEnd, decided, followed, readForm}
 use Rattle.grammar.specs.Theorems.{isEmpty}
 
 pub refused-values : {k : ℕ} {ns : List ℕ} → refused k ≡ values ns → ⊥
@@ -57,19 +57,19 @@ before-values Outside (refused k) ns e = absurd (refused-values e)
 -- What the rest of a line is read as after a value n: r by the rest of the form, but after a no the line has to end.
 abbrev pub onward : Kind → ℕ → Reading → List (List ℕ) → Reading
 onward (number rs) n r ps = r
-onward (word ws) n r ps = r
+onward (keyword ws) n r ps = r
 onward decision n r ps = cond (eqb n 0) r (atEnd ps)
 
 pub followed-number : (k : Kind) (n : ℕ) (r : Reading) (ps : List (List ℕ)) → followed k (Number n) r ps ≡ before (Number n) (onward k n r ps)
 unfolding followed decided
 followed-number (number rs) n r ps = refl
-followed-number (word ws) n r ps = refl
+followed-number (keyword ws) n r ps = refl
 followed-number decision n r ps = refl
 
 pub followed-values : (k : Kind) (d : Value) (r : Reading) (ps : List (List ℕ)) (ns : List ℕ) → followed k d r ps ≡ values ns → First d (λ n. onward k n r ps) ns
 unfolding followed decided unknown
 followed-values (number rs) d r ps ns e = before-values d r ns e
-followed-values (word ws) d r ps ns e = before-values d r ns e
+followed-values (keyword ws) d r ps ns e = before-values d r ns e
 followed-values decision (Number n) r ps ns e = before-number n (λ m. onward decision m r ps) ns e
 followed-values decision Malformed r ps ns e = absurd (refused-values e)
 followed-values decision Outside r ps ns e = absurd (refused-values e)

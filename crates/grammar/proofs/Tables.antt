@@ -11,53 +11,54 @@ use lib.ListN.{length, getD, take, drop, List·getD-append}
 use mir.Syntax.{w64}
 use mir.Val.{Fits}
 use Rattle.word.specs.Profile.{Range, _to_, LP5523}
-use Rattle.grammar.specs.Form.{Kind, number, word, decision, answers, Pair}
-use Rattle.grammar.specs.Grammar.{OpLine, opLines, opNames, opForm, planForm}
-use Rattle.grammar.specs.Tables.{keys, names, kinds, kindAt, forms, formOf, pairs, pairAt}
+use Rattle.grammar.specs.Form.{Kind, number, decision, answers, Pair, keyword}
+use Rattle.grammar.specs.Grammar.{OpLine, opLines, opNames, opForm, planPairs}
+use Rattle.grammar.specs.Tables.{keys, names, kinds, kindAt, forms, formOf, pairs, pairAt, opCount, nameCount, byteCount, numberKinds, kindCount, decisionKind, pairCount, formCount}
+use Rattle.text.specs.Bytes.{ascii}
 
 -- NAMES
 unfoldable pub nameBytes : List ℕ
-nameBytes = 114 ∷ 115 ∷ 116 ∷ 114 ∷ 97 ∷ 109 ∷ 112 ∷ 119 ∷ 97 ∷ 105 ∷ 116 ∷ 115 ∷ 101 ∷ 116 ∷ 114 ∷ 97 ∷ 109 ∷ 112 ∷ 45 ∷ 118 ∷ 97 ∷ 114 ∷ 115 ∷ 101 ∷ 116 ∷ 45 ∷ 118 ∷ 97 ∷ 114 ∷ 98 ∷ 114 ∷ 97 ∷ 110 ∷ 99 ∷ 104 ∷ 45 ∷ 118 ∷ 97 ∷ 114 ∷ 106 ∷ 110 ∷ 101 ∷ 106 ∷ 108 ∷ 106 ∷ 103 ∷ 101 ∷ 106 ∷ 101 ∷ 108 ∷ 100 ∷ 97 ∷ 100 ∷ 100 ∷ 115 ∷ 117 ∷ 98 ∷ 97 ∷ 100 ∷ 100 ∷ 45 ∷ 118 ∷ 97 ∷ 114 ∷ 115 ∷ 117 ∷ 98 ∷ 45 ∷ 118 ∷ 97 ∷ 114 ∷ 109 ∷ 117 ∷ 120 ∷ 45 ∷ 109 ∷ 97 ∷ 112 ∷ 45 ∷ 115 ∷ 116 ∷ 97 ∷ 114 ∷ 116 ∷ 109 ∷ 117 ∷ 120 ∷ 45 ∷ 108 ∷ 100 ∷ 45 ∷ 101 ∷ 110 ∷ 100 ∷ 109 ∷ 117 ∷ 120 ∷ 45 ∷ 108 ∷ 100 ∷ 45 ∷ 115 ∷ 116 ∷ 97 ∷ 114 ∷ 116 ∷ 109 ∷ 117 ∷ 120 ∷ 45 ∷ 108 ∷ 100 ∷ 45 ∷ 97 ∷ 100 ∷ 100 ∷ 114 ∷ 109 ∷ 117 ∷ 120 ∷ 45 ∷ 109 ∷ 97 ∷ 112 ∷ 45 ∷ 97 ∷ 100 ∷ 100 ∷ 114 ∷ 109 ∷ 117 ∷ 120 ∷ 45 ∷ 99 ∷ 108 ∷ 114 ∷ 109 ∷ 117 ∷ 120 ∷ 45 ∷ 115 ∷ 101 ∷ 108 ∷ 109 ∷ 117 ∷ 120 ∷ 45 ∷ 109 ∷ 97 ∷ 112 ∷ 45 ∷ 110 ∷ 101 ∷ 120 ∷ 116 ∷ 109 ∷ 117 ∷ 120 ∷ 45 ∷ 108 ∷ 100 ∷ 45 ∷ 110 ∷ 101 ∷ 120 ∷ 116 ∷ 109 ∷ 117 ∷ 120 ∷ 45 ∷ 109 ∷ 97 ∷ 112 ∷ 45 ∷ 112 ∷ 114 ∷ 101 ∷ 118 ∷ 109 ∷ 117 ∷ 120 ∷ 45 ∷ 108 ∷ 100 ∷ 45 ∷ 112 ∷ 114 ∷ 101 ∷ 118 ∷ 98 ∷ 114 ∷ 97 ∷ 110 ∷ 99 ∷ 104 ∷ 101 ∷ 110 ∷ 100 ∷ 105 ∷ 110 ∷ 116 ∷ 116 ∷ 114 ∷ 105 ∷ 103 ∷ 103 ∷ 101 ∷ 114 ∷ 117 ∷ 112 ∷ 100 ∷ 111 ∷ 119 ∷ 110 ∷ 65 ∷ 66 ∷ 67 ∷ 68 ∷ 121 ∷ 101 ∷ 115 ∷ 110 ∷ 111 ∷ 112 ∷ 114 ∷ 101 ∷ 115 ∷ 99 ∷ 97 ∷ 108 ∷ 101 ∷ 116 ∷ 105 ∷ 109 ∷ 101 ∷ 100 ∷ 105 ∷ 114 ∷ 99 ∷ 111 ∷ 117 ∷ 110 ∷ 116 ∷ 118 ∷ 97 ∷ 108 ∷ 117 ∷ 101 ∷ 102 ∷ 114 ∷ 111 ∷ 109 ∷ 108 ∷ 111 ∷ 111 ∷ 112 ∷ 115 ∷ 115 ∷ 116 ∷ 101 ∷ 112 ∷ 115 ∷ 107 ∷ 105 ∷ 112 ∷ 108 ∷ 101 ∷ 102 ∷ 116 ∷ 114 ∷ 105 ∷ 103 ∷ 104 ∷ 116 ∷ 116 ∷ 111 ∷ 97 ∷ 100 ∷ 100 ∷ 114 ∷ 101 ∷ 115 ∷ 115 ∷ 111 ∷ 117 ∷ 116 ∷ 112 ∷ 117 ∷ 116 ∷ 105 ∷ 110 ∷ 116 ∷ 114 ∷ 101 ∷ 115 ∷ 101 ∷ 116 ∷ 119 ∷ 97 ∷ 105 ∷ 116 ∷ 115 ∷ 101 ∷ 110 ∷ 100 ∷ 101 ∷ 110 ∷ 103 ∷ 105 ∷ 110 ∷ 101 ∷ 117 ∷ 115 ∷ 101 ∷ 102 ∷ 105 ∷ 114 ∷ 115 ∷ 116 ∷ 108 ∷ 97 ∷ 115 ∷ 116 ∷ 116 ∷ 97 ∷ 98 ∷ 108 ∷ 101 ∷ 116 ∷ 111 ∷ 112 ∷ 98 ∷ 111 ∷ 116 ∷ 116 ∷ 111 ∷ 109 ∷ []
+nameBytes = ascii "rstrampwaitsetramp-varset-varbranch-varjnejljgejeldaddsubadd-varsub-varmux-map-startmux-ld-endmux-ld-startmux-ld-addrmux-map-addrmux-clrmux-selmux-map-nextmux-ld-nextmux-map-prevmux-ld-prevbranchendinttriggerupdownABCDyesnoprescaletimedircountvaluefromloopsstepskipleftrighttoaddressoutputintresetwaitsendusefirstlasttabletopbottom"
 
 -- NAME_AT
 unfoldable pub nameAt : List ℕ
-nameAt = 0 ∷ 3 ∷ 7 ∷ 11 ∷ 14 ∷ 22 ∷ 29 ∷ 39 ∷ 42 ∷ 44 ∷ 47 ∷ 49 ∷ 51 ∷ 54 ∷ 57 ∷ 64 ∷ 71 ∷ 84 ∷ 94 ∷ 106 ∷ 117 ∷ 129 ∷ 136 ∷ 143 ∷ 155 ∷ 166 ∷ 178 ∷ 189 ∷ 195 ∷ 198 ∷ 201 ∷ 208 ∷ 210 ∷ 214 ∷ 215 ∷ 216 ∷ 217 ∷ 218 ∷ 221 ∷ 223 ∷ 231 ∷ 235 ∷ 238 ∷ 243 ∷ 248 ∷ 252 ∷ 257 ∷ 261 ∷ 265 ∷ 269 ∷ 274 ∷ 276 ∷ 283 ∷ 289 ∷ 292 ∷ 297 ∷ 301 ∷ 305 ∷ 311 ∷ 314 ∷ 319 ∷ 323 ∷ 328 ∷ 331 ∷ 337 ∷ []
+nameAt = 0 ∷ 3 ∷ 7 ∷ 11 ∷ 14 ∷ 22 ∷ 29 ∷ 39 ∷ 42 ∷ 44 ∷ 47 ∷ 49 ∷ 51 ∷ 54 ∷ 57 ∷ 64 ∷ 71 ∷ 84 ∷ 94 ∷ 106 ∷ 117 ∷ 129 ∷ 136 ∷ 143 ∷ 155 ∷ 166 ∷ 178 ∷ 189 ∷ 195 ∷ 198 ∷ 201 ∷ 208 ∷ 210 ∷ 214 ∷ 215 ∷ 216 ∷ 217 ∷ 218 ∷ 221 ∷ 223 ∷ 231 ∷ 235 ∷ 238 ∷ 243 ∷ 248 ∷ 252 ∷ 257 ∷ 261 ∷ 265 ∷ 269 ∷ 274 ∷ 276 ∷ 283 ∷ 289 ∷ 292 ∷ 297 ∷ 301 ∷ 305 ∷ 308 ∷ 313 ∷ 317 ∷ 322 ∷ 325 ∷ 331 ∷ []
 
 -- LOW
 unfoldable pub low : List ℕ
-low = 0 ∷ 1 ∷ 0 ∷ 0 ∷ 0 ∷ 0 ∷ 0 ∷ 1 ∷ 0 ∷ 1 ∷ 2 ∷ 3 ∷ []
+low = 0 ∷ 1 ∷ 0 ∷ 0 ∷ 0 ∷ 0 ∷ 0 ∷ 1 ∷ 0 ∷ []
 
 -- HIGH
 unfoldable pub high : List ℕ
-high = 1 ∷ 31 ∷ 255 ∷ 31 ∷ 63 ∷ 127 ∷ 95 ∷ 9 ∷ 7 ∷ 1 ∷ 2 ∷ 3 ∷ []
+high = 1 ∷ 31 ∷ 255 ∷ 31 ∷ 63 ∷ 127 ∷ 95 ∷ 9 ∷ 7 ∷ []
 
 -- ALSO_LOW
 unfoldable pub alsoLow : List ℕ
-alsoLow = 0 ∷ 1 ∷ 0 ∷ 0 ∷ 0 ∷ 0 ∷ 0 ∷ 16 ∷ 32 ∷ 1 ∷ 2 ∷ 3 ∷ []
+alsoLow = 0 ∷ 1 ∷ 0 ∷ 0 ∷ 0 ∷ 0 ∷ 0 ∷ 16 ∷ 32 ∷ []
 
 -- ALSO_HIGH
 unfoldable pub alsoHigh : List ℕ
-alsoHigh = 1 ∷ 31 ∷ 255 ∷ 31 ∷ 63 ∷ 127 ∷ 95 ∷ 16 ∷ 39 ∷ 1 ∷ 2 ∷ 3 ∷ []
+alsoHigh = 1 ∷ 31 ∷ 255 ∷ 31 ∷ 63 ∷ 127 ∷ 95 ∷ 16 ∷ 39 ∷ []
 
--- WORD_FIRST
-unfoldable pub wordFirst : List ℕ
-wordFirst = 31 ∷ 33 ∷ 33 ∷ 37 ∷ []
+-- KEYWORD_FIRST
+unfoldable pub keywordFirst : List ℕ
+keywordFirst = 31 ∷ 33 ∷ 33 ∷ 37 ∷ []
 
--- WORD_COUNT
-unfoldable pub wordCount : List ℕ
-wordCount = 2 ∷ 4 ∷ 3 ∷ 2 ∷ []
+-- KEYWORD_COUNT
+unfoldable pub keywordCount : List ℕ
+keywordCount = 2 ∷ 4 ∷ 3 ∷ 2 ∷ []
 
 -- PAIR_KEY
 unfoldable pub pairKey : List ℕ
-pairKey = 39 ∷ 40 ∷ 41 ∷ 42 ∷ 39 ∷ 40 ∷ 43 ∷ 39 ∷ 41 ∷ 40 ∷ 42 ∷ 44 ∷ 45 ∷ 46 ∷ 47 ∷ 48 ∷ 49 ∷ 47 ∷ 48 ∷ 49 ∷ 47 ∷ 48 ∷ 49 ∷ 47 ∷ 48 ∷ 49 ∷ 50 ∷ 43 ∷ 50 ∷ 43 ∷ 50 ∷ 43 ∷ 50 ∷ 48 ∷ 49 ∷ 50 ∷ 48 ∷ 49 ∷ 51 ∷ 51 ∷ 51 ∷ 51 ∷ 51 ∷ 52 ∷ 45 ∷ 46 ∷ 53 ∷ 54 ∷ 55 ∷ 56 ∷ 57 ∷ 58 ∷ 59 ∷ 60 ∷ 61 ∷ 62 ∷ 63 ∷ 57 ∷ 58 ∷ 59 ∷ 60 ∷ 61 ∷ 62 ∷ 63 ∷ 57 ∷ 58 ∷ 59 ∷ 60 ∷ 61 ∷ 62 ∷ 63 ∷ []
+pairKey = 39 ∷ 40 ∷ 41 ∷ 42 ∷ 39 ∷ 40 ∷ 43 ∷ 39 ∷ 41 ∷ 40 ∷ 42 ∷ 44 ∷ 45 ∷ 46 ∷ 47 ∷ 48 ∷ 49 ∷ 47 ∷ 48 ∷ 49 ∷ 47 ∷ 48 ∷ 49 ∷ 47 ∷ 48 ∷ 49 ∷ 50 ∷ 43 ∷ 50 ∷ 43 ∷ 50 ∷ 43 ∷ 50 ∷ 48 ∷ 49 ∷ 50 ∷ 48 ∷ 49 ∷ 51 ∷ 51 ∷ 51 ∷ 51 ∷ 51 ∷ 52 ∷ 45 ∷ 46 ∷ 53 ∷ 54 ∷ 55 ∷ 56 ∷ 57 ∷ 58 ∷ 59 ∷ 60 ∷ 61 ∷ 62 ∷ []
 
 -- PAIR_KIND
 unfoldable pub pairKind : List ℕ
-pairKind = 0 ∷ 1 ∷ 12 ∷ 2 ∷ 0 ∷ 1 ∷ 2 ∷ 0 ∷ 12 ∷ 13 ∷ 13 ∷ 13 ∷ 13 ∷ 5 ∷ 3 ∷ 13 ∷ 13 ∷ 3 ∷ 13 ∷ 13 ∷ 3 ∷ 13 ∷ 13 ∷ 3 ∷ 13 ∷ 13 ∷ 14 ∷ 2 ∷ 14 ∷ 2 ∷ 14 ∷ 2 ∷ 14 ∷ 13 ∷ 13 ∷ 14 ∷ 13 ∷ 13 ∷ 6 ∷ 6 ∷ 6 ∷ 6 ∷ 6 ∷ 7 ∷ 4 ∷ 5 ∷ 0 ∷ 0 ∷ 8 ∷ 8 ∷ 9 ∷ 15 ∷ 6 ∷ 6 ∷ 15 ∷ 6 ∷ 6 ∷ 10 ∷ 15 ∷ 6 ∷ 6 ∷ 15 ∷ 6 ∷ 6 ∷ 11 ∷ 15 ∷ 6 ∷ 6 ∷ 15 ∷ 6 ∷ 6 ∷ []
+pairKind = 0 ∷ 1 ∷ 9 ∷ 2 ∷ 0 ∷ 1 ∷ 2 ∷ 0 ∷ 9 ∷ 10 ∷ 10 ∷ 10 ∷ 10 ∷ 5 ∷ 3 ∷ 10 ∷ 10 ∷ 3 ∷ 10 ∷ 10 ∷ 3 ∷ 10 ∷ 10 ∷ 3 ∷ 10 ∷ 10 ∷ 11 ∷ 2 ∷ 11 ∷ 2 ∷ 11 ∷ 2 ∷ 11 ∷ 10 ∷ 10 ∷ 11 ∷ 10 ∷ 10 ∷ 6 ∷ 6 ∷ 6 ∷ 6 ∷ 6 ∷ 7 ∷ 4 ∷ 5 ∷ 0 ∷ 0 ∷ 8 ∷ 8 ∷ 12 ∷ 6 ∷ 6 ∷ 12 ∷ 6 ∷ 6 ∷ []
 
 -- FORM_AT
 unfoldable pub formAt : List ℕ
-formAt = 0 ∷ 0 ∷ 4 ∷ 6 ∷ 7 ∷ 11 ∷ 12 ∷ 14 ∷ 17 ∷ 20 ∷ 23 ∷ 26 ∷ 28 ∷ 30 ∷ 32 ∷ 35 ∷ 38 ∷ 39 ∷ 40 ∷ 41 ∷ 42 ∷ 43 ∷ 43 ∷ 44 ∷ 44 ∷ 44 ∷ 44 ∷ 44 ∷ 46 ∷ 48 ∷ 48 ∷ 50 ∷ 57 ∷ 64 ∷ 71 ∷ []
+formAt = 0 ∷ 0 ∷ 4 ∷ 6 ∷ 7 ∷ 11 ∷ 12 ∷ 14 ∷ 17 ∷ 20 ∷ 23 ∷ 26 ∷ 28 ∷ 30 ∷ 32 ∷ 35 ∷ 38 ∷ 39 ∷ 40 ∷ 41 ∷ 42 ∷ 43 ∷ 43 ∷ 44 ∷ 44 ∷ 44 ∷ 44 ∷ 44 ∷ 46 ∷ 48 ∷ 48 ∷ 50 ∷ 56 ∷ []
 
 -- f 0, f 1, .. f (n - 1)
 abbrev pub tabulate : {A : Type 0} → ℕ → (ℕ → A) → List A
@@ -95,12 +96,6 @@ below (suc n) f t (suc k) h = below n (λ i. f (suc i)) (and-right (f zero) (all
 inOrder : (n : ℕ) (f g : ℕ → ℕ) → T (allBelow n (λ k. leb (f k) (g k))) → (k : ℕ) → k < n → f k ≤ g k
 inOrder n f g t k h = leb→le (f k) (g k) (below n (λ k. leb (f k) (g k)) t k h)
 
--- The same at the n places from a on.
-inOrderFrom : (a n : ℕ) (f g : ℕ → ℕ) → T (allBelow n (λ i. leb (f (a + i)) (g (a + i)))) → (k : ℕ) → a ≤ k → k < a + n → f k ≤ g k
-inOrderFrom a n f g t k h l =
-    let e : a + (k - a) ≡ k = omega arith in
-    subst (λ (j : ℕ). f j ≤ g j) e (inOrder n (λ i. f (a + i)) (λ i. g (a + i)) t (k - a) (omega arith))
-
 -- A place that is in a table of m is in one of k, and so is the next, where k is as large, and larger.
 pub in-table : {n m k : ℕ} → n < m → T (leb m k) → n < k
 in-table {n} {m} {k} h t =
@@ -113,7 +108,7 @@ next-in-table n {m} {k} h t =
     omega arith
 
 -- Where an entry of two bytes begins, in bytes.
-pub scaled : (n : ℕ) → n < 65 → Fits w64 (n * 2)
+pub scaled : (n : ℕ) → n < nameCount + 1 → Fits w64 (n * 2)
 scaled n h = omega arith
 
 -- ---- names
@@ -122,31 +117,31 @@ scaled n h = omega arith
 abbrev pub namePart : ℕ → List ℕ
 namePart k = take (getD nameAt (k + 1) 0 - getD nameAt k 0) (drop (getD nameAt k 0) nameBytes)
 
-pub name-starts : (k : ℕ) → k < 64 → getD nameAt k 0 ≤ getD nameAt (k + 1) 0
+pub name-starts : (k : ℕ) → k < nameCount → getD nameAt k 0 ≤ getD nameAt (k + 1) 0
 unfolding nameAt
-name-starts = inOrder 64 (λ k. getD nameAt k 0) (λ k. getD nameAt (k + 1) 0) tt
+name-starts = inOrder nameCount (λ k. getD nameAt k 0) (λ k. getD nameAt (k + 1) 0) tt
 
-pub name-ends : (k : ℕ) → k < 64 → getD nameAt (k + 1) 0 ≤ 337
+pub name-ends : (k : ℕ) → k < nameCount → getD nameAt (k + 1) 0 ≤ byteCount
 unfolding nameAt
-name-ends = inOrder 64 (λ k. getD nameAt (k + 1) 0) (λ k. 337) tt
+name-ends = inOrder nameCount (λ k. getD nameAt (k + 1) 0) (λ k. byteCount) tt
 
-pub name-fits : (k : ℕ) → k < 65 → Fits w64 (getD nameAt k 0)
+pub name-fits : (k : ℕ) → k < nameCount + 1 → Fits w64 (getD nameAt k 0)
 unfolding nameAt
-name-fits k h = fits-under w64 _ 338 (inOrder 65 (λ k. suc (getD nameAt k 0)) (λ k. 338) tt k h) tt
+name-fits k h = fits-under w64 _ (byteCount + 1) (inOrder (nameCount + 1) (λ k. suc (getD nameAt k 0)) (λ k. (byteCount + 1)) tt k h) tt
 
-names-are : names ≡ tabulate 64 namePart
+names-are : names ≡ tabulate nameCount namePart
 unfolding names opNames keys nameBytes nameAt
 names-are = refl
 
-pub name-is : (k : ℕ) → k < 64 → getD names k [] ≡ namePart k
-name-is = tabled names 64 namePart [] names-are
+pub name-is : (k : ℕ) → k < nameCount → getD names k [] ≡ namePart k
+name-is = tabled names nameCount namePart [] names-are
 
-pub names-length : length names ≡ 64
+pub names-length : length names ≡ nameCount
 unfolding names opNames keys
 names-length = refl
 
 -- The first names are those of the operations.
-pub ops-first : opNames LP5523 ≡ take 31 (drop 0 names)
+pub ops-first : opNames LP5523 ≡ take opCount (drop 0 names)
 unfolding names opNames keys
 ops-first = refl
 
@@ -160,130 +155,113 @@ rangeTable k =
     (getD low k 0 to getD high k 0 ∷ [])
     (getD low k 0 to getD high k 0 ∷ getD alsoLow k 0 to getD alsoHigh k 0 ∷ [])
 
--- The words of the kind 12 + k.
-abbrev pub wordTable : ℕ → List (List ℕ)
-wordTable k = take (getD wordCount k 0) (drop (getD wordFirst k 0) names)
+-- The keywords of the kind numberKinds + k.
+abbrev pub keywordTable : ℕ → List (List ℕ)
+keywordTable k = take (getD keywordCount k 0) (drop (getD keywordFirst k 0) names)
 
 abbrev pub kindTable : ℕ → Kind
-kindTable k = cond (ltb k 12) (number (rangeTable k)) (cond (ltb k 15) (word (wordTable (k - 12))) decision)
+kindTable k = cond (ltb k numberKinds) (number (rangeTable k)) (cond (ltb k decisionKind) (keyword (keywordTable (k - numberKinds))) decision)
 
 -- How far apart the ends of the two ranges are, where they begin alike.
 abbrev apart : ℕ → ℕ
 apart k = cond (eqb (getD low k 0) (getD alsoLow k 0)) (getD high k 0 - getD alsoHigh k 0 + (getD alsoHigh k 0 - getD high k 0)) 0
 
-none-apart : (k : ℕ) → k < 12 → apart k ≤ 0
+none-apart : (k : ℕ) → k < numberKinds → apart k ≤ 0
 unfolding low high alsoLow alsoHigh
-none-apart = inOrder 12 apart (λ k. 0) tt
+none-apart = inOrder numberKinds apart (λ k. 0) tt
 
 -- Where the second range begins as the first does, it is the first again.
-pub range-again : (k : ℕ) → k < 12 → eqb (getD low k 0) (getD alsoLow k 0) ≡ true → getD high k 0 ≡ getD alsoHigh k 0
+pub range-again : (k : ℕ) → k < numberKinds → eqb (getD low k 0) (getD alsoLow k 0) ≡ true → getD high k 0 ≡ getD alsoHigh k 0
 range-again k h e =
     let f = getD high k 0 - getD alsoHigh k 0 + (getD alsoHigh k 0 - getD high k 0) in
     omega (arith, subst (λ (t : Bool). cond t f 0 ≤ 0) e (none-apart k h))
 
-kinds-are : kinds ≡ tabulate 16 kindTable
-unfolding kinds low high alsoLow alsoHigh wordCount wordFirst names opNames keys
+kinds-are : kinds ≡ tabulate kindCount kindTable
+unfolding kinds low high alsoLow alsoHigh keywordCount keywordFirst names opNames keys
 kinds-are = refl
 
-pub kind-is : (k : ℕ) → k < 16 → kindAt k ≡ kindTable k
+pub kind-is : (k : ℕ) → k < kindCount → kindAt k ≡ kindTable k
 unfolding kindAt
-kind-is = tabled kinds 16 kindTable decision kinds-are
+kind-is = tabled kinds kindCount kindTable decision kinds-are
 
--- The answers, yes and no, are the words of the last kind.
-pub answers-are : answers ≡ wordTable 3
-unfolding wordCount wordFirst names opNames keys
+-- The answers, yes and no, are the keywords of the last kind.
+pub answers-are : answers ≡ keywordTable 3
+unfolding keywordCount keywordFirst names opNames keys
 answers-are = refl
 
-pub words-within : (k : ℕ) → k < 4 → getD wordFirst k 0 + getD wordCount k 0 ≤ 64
-unfolding wordFirst wordCount
-words-within = inOrder 4 (λ k. getD wordFirst k 0 + getD wordCount k 0) (λ k. 64) tt
+pub keywords-within : (k : ℕ) → k < 4 → getD keywordFirst k 0 + getD keywordCount k 0 ≤ nameCount
+unfolding keywordFirst keywordCount
+keywords-within = inOrder 4 (λ k. getD keywordFirst k 0 + getD keywordCount k 0) (λ k. nameCount) tt
 
-pub first-fits : (k : ℕ) → k < 4 → Fits w64 (getD wordFirst k 0)
-unfolding wordFirst
-first-fits k h = fits-under w64 _ 64 (inOrder 4 (λ k. suc (getD wordFirst k 0)) (λ k. 64) tt k h) tt
+pub first-fits : (k : ℕ) → k < 4 → Fits w64 (getD keywordFirst k 0)
+unfolding keywordFirst
+first-fits k h = fits-under w64 _ nameCount (inOrder 4 (λ k. suc (getD keywordFirst k 0)) (λ k. nameCount) tt k h) tt
 
-pub count-fits : (k : ℕ) → k < 4 → Fits w64 (getD wordCount k 0)
-unfolding wordCount
-count-fits k h = fits-under w64 _ 64 (inOrder 4 (λ k. suc (getD wordCount k 0)) (λ k. 64) tt k h) tt
+pub count-fits : (k : ℕ) → k < 4 → Fits w64 (getD keywordCount k 0)
+unfolding keywordCount
+count-fits k h = fits-under w64 _ nameCount (inOrder 4 (λ k. suc (getD keywordCount k 0)) (λ k. nameCount) tt k h) tt
 
 -- ---- pairs and forms
 
 abbrev pub pairTable : ℕ → Pair
 pairTable k = record { key = getD names (getD pairKey k 0) []; kind = kindAt (getD pairKind k 0) }
 
-pairs-are : pairs ≡ tabulate 71 pairTable
-unfolding pairs forms planForm names opNames keys kindAt kinds pairKey pairKind
+pairs-are : pairs ≡ tabulate pairCount pairTable
+unfolding pairs forms names opNames keys kindAt kinds pairKey pairKind
 pairs-are = refl
 
-pub pair-is : (k : ℕ) → k < 71 → pairAt k ≡ pairTable k
+pub pair-is : (k : ℕ) → k < pairCount → pairAt k ≡ pairTable k
 unfolding pairAt
-pair-is = tabled pairs 71 pairTable (record { key = []; kind = decision }) pairs-are
+pair-is = tabled pairs pairCount pairTable (record { key = []; kind = decision }) pairs-are
 
-pub pairs-length : length pairs ≡ 71
-unfolding pairs forms planForm
+pub pairs-length : length pairs ≡ pairCount
+unfolding pairs forms
 pairs-length = refl
 
-pub pair-keys : (k : ℕ) → k < 71 → getD pairKey k 0 < 64
+pub pair-keys : (k : ℕ) → k < pairCount → getD pairKey k 0 < nameCount
 unfolding pairKey
-pair-keys = inOrder 71 (λ k. suc (getD pairKey k 0)) (λ k. 64) tt
+pair-keys = inOrder pairCount (λ k. suc (getD pairKey k 0)) (λ k. nameCount) tt
 
-pub pair-kinds : (k : ℕ) → k < 71 → getD pairKind k 0 < 16
+pub pair-kinds : (k : ℕ) → k < pairCount → getD pairKind k 0 < kindCount
 unfolding pairKind
-pair-kinds = inOrder 71 (λ k. suc (getD pairKind k 0)) (λ k. 16) tt
+pair-kinds = inOrder pairCount (λ k. suc (getD pairKind k 0)) (λ k. kindCount) tt
 
-pub key-fits : (k : ℕ) → k < 71 → Fits w64 (getD pairKey k 0)
-key-fits k h = fits-under w64 _ 64 (pair-keys k h) tt
+pub key-fits : (k : ℕ) → k < pairCount → Fits w64 (getD pairKey k 0)
+key-fits k h = fits-under w64 _ nameCount (pair-keys k h) tt
 
-pub kind-fits : (k : ℕ) → k < 71 → Fits w64 (getD pairKind k 0)
-kind-fits k h = fits-under w64 _ 16 (pair-kinds k h) tt
+pub kind-fits : (k : ℕ) → k < pairCount → Fits w64 (getD pairKind k 0)
+kind-fits k h = fits-under w64 _ kindCount (pair-kinds k h) tt
 
 -- The pairs of the form k.
 abbrev pub formTable : ℕ → List Pair
 formTable k = take (getD formAt (k + 1) 0 - getD formAt k 0) (drop (getD formAt k 0) pairs)
 
-forms-are : forms ≡ tabulate 34 formTable
-unfolding forms planForm pairs formAt
+forms-are : forms ≡ tabulate formCount formTable
+unfolding forms pairs formAt
 forms-are = refl
 
-pub form-is : (k : ℕ) → k < 34 → formOf k ≡ formTable k
+pub form-is : (k : ℕ) → k < formCount → formOf k ≡ formTable k
 unfolding formOf
-form-is = tabled forms 34 formTable [] forms-are
+form-is = tabled forms formCount formTable [] forms-are
 
-pub form-starts : (k : ℕ) → k < 34 → getD formAt k 0 ≤ getD formAt (k + 1) 0
+pub form-ends : (k : ℕ) → k < formCount + 1 → getD formAt k 0 ≤ pairCount
 unfolding formAt
-form-starts = inOrder 34 (λ k. getD formAt k 0) (λ k. getD formAt (k + 1) 0) tt
+form-ends = inOrder (formCount + 1) (λ k. getD formAt k 0) (λ k. pairCount) tt
 
-pub form-ends : (k : ℕ) → k < 35 → getD formAt k 0 ≤ 71
+pub form-fits : (k : ℕ) → k < formCount + 1 → Fits w64 (getD formAt k 0)
 unfolding formAt
-form-ends = inOrder 35 (λ k. getD formAt k 0) (λ k. 71) tt
+form-fits k h = fits-under w64 _ (pairCount + 1) (inOrder (formCount + 1) (λ k. suc (getD formAt k 0)) (λ k. (pairCount + 1)) tt k h) tt
 
-pub form-fits : (k : ℕ) → k < 35 → Fits w64 (getD formAt k 0)
+-- No form has more than six pairs: with the first pair of its line a value for each.
+pub form-sizes : (k : ℕ) → k < formCount → getD formAt (k + 1) 0 ≤ getD formAt k 0 + 6
 unfolding formAt
-form-fits k h = fits-under w64 _ 72 (inOrder 35 (λ k. suc (getD formAt k 0)) (λ k. 72) tt k h) tt
+form-sizes = inOrder formCount (λ k. getD formAt (k + 1) 0) (λ k. getD formAt k 0 + 6) tt
 
--- No form has more pairs than there are values; that of an operation has one less, for the operation itself.
-pub form-sizes : (k : ℕ) → k < 34 → getD formAt (k + 1) 0 ≤ getD formAt k 0 + 7
-unfolding formAt
-form-sizes = inOrder 34 (λ k. getD formAt (k + 1) 0) (λ k. getD formAt k 0 + 7) tt
-
-pub op-sizes : (k : ℕ) → k < 31 → getD formAt (k + 1) 0 ≤ getD formAt k 0 + 6
-unfolding formAt
-op-sizes = inOrder 31 (λ k. getD formAt (k + 1) 0) (λ k. getD formAt k 0 + 6) tt
-
--- The forms of the operations, and those of the plan lines, which begin with a number.
-pub op-form : (k : ℕ) → k < 31 → opForm LP5523 k ≡ formOf k
+-- The forms of the operations, and that of the plan lines.
+pub op-form : (k : ℕ) → k < opCount → opForm LP5523 k ≡ formOf k
 unfolding opForm formOf forms
-op-form k h = sym (List·getD-append (map (λ (l : OpLine). l .form) (opLines LP5523)) (planForm LP5523 1 ∷ planForm LP5523 2 ∷ planForm LP5523 3 ∷ []) [] k h)
+op-form k h = sym (List·getD-append (map (λ (l : OpLine). l .form) (opLines LP5523)) (planPairs LP5523 ∷ []) [] k h)
 
-pub plan-forms : (formOf 31 ≡ planForm LP5523 1) × (formOf 32 ≡ planForm LP5523 2) × (formOf 33 ≡ planForm LP5523 3)
+pub plan-form : planPairs LP5523 ≡ formOf opCount
 unfolding formOf forms
-plan-forms = (refl, refl, refl)
-
--- A plan line has a pair, and the first is no yes or no.
-pub plan-starts : (k : ℕ) → 31 ≤ k → k < 34 → getD formAt k 0 < getD formAt (k + 1) 0
-unfolding formAt
-plan-starts = inOrderFrom 31 3 (λ k. suc (getD formAt k 0)) (λ k. getD formAt (k + 1) 0) tt
-
-pub plan-kinds : (k : ℕ) → 31 ≤ k → k < 34 → getD pairKind (getD formAt k 0) 0 < 15
-unfolding formAt pairKind
-plan-kinds = inOrderFrom 31 3 (λ k. suc (getD pairKind (getD formAt k 0) 0)) (λ k. 15) tt
+plan-form = refl

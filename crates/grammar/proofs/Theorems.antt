@@ -15,21 +15,21 @@ use Rattle.grammar.proofs.Lines.{line-matched}
 
 pub read-writes : ReadWrites
 unfolding readLine writeLine
-read-writes P f line ns e = ap (join space) (line-matched P f .again (split space line) ns e .0) ∙ joins-split space line
+read-writes P k line ns e = ap (join space) (line-matched P k .again (split space line) ns e .0) ∙ joins-split space line
 
 pub read-fits : ReadFits
 unfolding readLine
-read-fits P f line ns e = line-matched P f .again (split space line) ns e .1
+read-fits P k line ns e = line-matched P k .again (split space line) ns e .1
 
 pub written-reads : WrittenReads
 unfolding readLine writeLine
-written-reads P f ns e = go (writeParts P f ns) (line-matched P f .back ns e) (line-matched P f .lack space (omega arith) ns)
+written-reads P k ns e = go (writeParts P k ns) (line-matched P k .back ns e) (line-matched P k .lack space (omega arith) ns)
   where
     -- the parts that were joined are found again, since there is at least one and none has a space
-    go : (ps : List (List ℕ)) → readParts P f ps ≡ values ns → allLack space ps ≡ true → readParts P f (split space (join space ps)) ≡ values ns
-    go [] r h = absurd (line-matched P f .some ns r)
-    go (p ∷ ps) r h = ap (readParts P f) (splits-join space p ps h) ∙ r
+    go : (ps : List (List ℕ)) → readParts P k ps ≡ values ns → allLack space ps ≡ true → readParts P k (split space (join space ps)) ≡ values ns
+    go [] r h = absurd (line-matched P k .some ns r)
+    go (p ∷ ps) r h = ap (readParts P k) (splits-join space p ps h) ∙ r
 
 pub written-lacks : WrittenLacks
 unfolding writeLine
-written-lacks P f ns = lacks-join lineFeed space (λ z. omega arith) (writeParts P f ns) ∙ line-matched P f .lack lineFeed (omega arith) ns
+written-lacks P k ns = lacks-join lineFeed space (λ z. omega arith) (writeParts P k ns) ∙ line-matched P k .lack lineFeed (omega arith) ns

@@ -1,40 +1,40 @@
 -- When a line is refused with 20, 21 or 22, as plain statements (document 01, "Numbers of refusal" and the paragraph under its table). That
 -- the reader gives each number exactly there is stated below; the proofs are in proofs/Exactly.antt. The 22 of a ramp up by 0 is the
 -- encoder's, and comes in `op_lines`.
-use Prim.Native.Nat.{ℕ}
+use Prim.Native.Nat.{ℕ, _≤_}
 use mathlib.Core.Bool.{Bool, true, false, cond}
 use mathlib.Core.List.{List, [], _∷_}
 use mathlib.Core.Logic.{_↔_, _⊎_}
 use mathlib.Core.Path.{_≡_}
-use Rattle.text.specs.Bytes.{ascii, space, same, split, valueOf, isWord}
+use Rattle.text.specs.Bytes.{ascii, space, same, split, valueOf, isKeyword}
 use Rattle.text.specs.Number.{isNumber, numberOf}
 use Rattle.word.specs.Profile.{Profile}
 use Rattle.word.specs.Field.{inside}
-use Rattle.grammar.specs.declared.Form.{Form}
-use Rattle.grammar.specs.declared.Form.the-variants.{Op, Engine1, Engine2, Engine3, Row, Spare}
-use Rattle.grammar.specs.Form.{Kind, number, word, decision, answers, Pair, values, refused, allPairs}
+use Rattle.grammar.specs.declared.LineKind.{LineKind}
+use Rattle.grammar.specs.declared.LineKind.the-variants.{Op, Plan, Row, Spare}
+use Rattle.grammar.specs.Form.{Kind, number, keyword, decision, answers, Pair, values, refused, allPairs}
 use Rattle.grammar.specs.Grammar.{OpLine, opLines, planForm, wordForm, readLine}
 
--- Whether a word is one of some.
+-- Whether a keyword is one of some.
 abbrev pub among : List (List ℕ) → List ℕ → Bool
 among [] v = false
 among (w ∷ ws) v = cond (same v w) true (among ws v)
 
--- "A non-digit or leading zero in a number is 20"; a word is not empty and has no equals sign.
+-- "A non-digit or leading zero in a number is 20"; a keyword is not empty and has no equals sign.
 abbrev pub shaped : Kind → List ℕ → Bool
 shaped (number rs) v = isNumber v
-shaped (word ws) v = isWord v
-shaped decision v = isWord v
+shaped (keyword ws) v = isKeyword v
+shaped decision v = isKeyword v
 
 -- What has to stand after a value, where `rest` says that the parts ps are well-formed by the rest of the form: nothing after a no, and
--- after a word that is neither yes nor no only pairs.
+-- after a keyword that is neither yes nor no only pairs.
 abbrev pub Onward : Kind → List ℕ → Type 0 → List (List ℕ) → Type 0
 Onward (number rs) v rest ps = rest
-Onward (word ws) v rest ps = rest
+Onward (keyword ws) v rest ps = rest
 Onward decision v rest ps = cond (same v (ascii "yes")) rest (cond (same v (ascii "no")) (ps ≡ []) (allPairs ps ≡ true))
 
 -- The parts of a line have the form's keys in its order, with values of the right shape, and none is missing or more. A
--- part with another key has no value, and nothing is no value of the right shape.
+-- part with another key has an empty value, which never has the right shape.
 abbrev pub WellFormed : List Pair → List (List ℕ) → Type 0
 WellFormed [] ps = ps ≡ []
 WellFormed (f ∷ fs) [] = ⊥
@@ -43,13 +43,13 @@ WellFormed (f ∷ fs) (p ∷ ps) = (shaped (f .kind) (valueOf (f .key) p) ≡ tr
 -- "Operand outside its field", "a word that isn't allowed": the number is the decimal value of its text, however long.
 abbrev pub fitting : Kind → List ℕ → Bool
 fitting (number rs) v = inside rs (numberOf v)
-fitting (word ws) v = among ws v
+fitting (keyword ws) v = among ws v
 fitting decision v = among answers v
 
 -- Whether the pairs after a value are the form's.
 abbrev pub goesOn : Kind → List ℕ → Bool
 goesOn (number rs) v = true
-goesOn (word ws) v = true
+goesOn (keyword ws) v = true
 goesOn decision v = same v (ascii "yes")
 
 abbrev pub SomeOutside : List Pair → List (List ℕ) → Type 0
@@ -80,61 +80,62 @@ abbrev pub OutsideAfter : Named → List (List ℕ) → Type 0
 OutsideAfter (form f) ps = SomeOutside f ps
 OutsideAfter none ps = ⊥
 
-abbrev pub named : Profile → List ℕ → Named
-named P p = formNamed (opLines P) (valueOf (ascii "op") p)
+abbrev pub opNamed : Profile → List ℕ → Named
+opNamed P p = formNamed (opLines P) (valueOf (ascii "op") p)
 
 abbrev pub OpWellFormed : Profile → List (List ℕ) → Type 0
 OpWellFormed P [] = ⊥
-OpWellFormed P (p ∷ ps) = (isWord (valueOf (ascii "op") p) ≡ true) × AfterName (named P p) ps
+OpWellFormed P (p ∷ ps) = (isKeyword (valueOf (ascii "op") p) ≡ true) × AfterName (opNamed P p) ps
 
 abbrev pub OpUnknown : Profile → List (List ℕ) → Type 0
 OpUnknown P [] = ⊥
-OpUnknown P (p ∷ ps) = IsUnknown (named P p)
+OpUnknown P (p ∷ ps) = IsUnknown (opNamed P p)
 
 abbrev pub OpOutside : Profile → List (List ℕ) → Type 0
 OpOutside P [] = ⊥
-OpOutside P (p ∷ ps) = OutsideAfter (named P p) ps
+OpOutside P (p ∷ ps) = OutsideAfter (opNamed P p) ps
 
 -- Not 20: the line is well-formed.
-abbrev pub LineWellFormed : Profile → Form → List (List ℕ) → Type 0
+abbrev pub LineWellFormed : Profile → LineKind → List (List ℕ) → Type 0
 LineWellFormed P Op ps = OpWellFormed P ps
-LineWellFormed P Engine1 ps = WellFormed (planForm P 1) ps
-LineWellFormed P Engine2 ps = WellFormed (planForm P 2) ps
-LineWellFormed P Engine3 ps = WellFormed (planForm P 3) ps
+LineWellFormed P (Plan i) ps = WellFormed (planForm P i) ps
 LineWellFormed P Row ps = WellFormed (wordForm "row") ps
 LineWellFormed P Spare ps = WellFormed (wordForm "spare") ps
 
 -- 21: unknown op.
-abbrev pub LineUnknown : Profile → Form → List (List ℕ) → Type 0
+abbrev pub LineUnknown : Profile → LineKind → List (List ℕ) → Type 0
 LineUnknown P Op ps = OpUnknown P ps
-LineUnknown P Engine1 ps = ⊥
-LineUnknown P Engine2 ps = ⊥
-LineUnknown P Engine3 ps = ⊥
+LineUnknown P (Plan i) ps = ⊥
 LineUnknown P Row ps = ⊥
 LineUnknown P Spare ps = ⊥
 
 -- 22: a value outside its field.
-abbrev pub LineOutside : Profile → Form → List (List ℕ) → Type 0
+abbrev pub LineOutside : Profile → LineKind → List (List ℕ) → Type 0
 LineOutside P Op ps = OpOutside P ps
-LineOutside P Engine1 ps = SomeOutside (planForm P 1) ps
-LineOutside P Engine2 ps = SomeOutside (planForm P 2) ps
-LineOutside P Engine3 ps = SomeOutside (planForm P 3) ps
+LineOutside P (Plan i) ps = SomeOutside (planForm P i) ps
 LineOutside P Row ps = SomeOutside (wordForm "row") ps
 LineOutside P Spare ps = SomeOutside (wordForm "spare") ps
 
 -- "In it 20, 21, 22": each number is given exactly where its condition holds and no lower number's does; and no other is given.
 -- A line is read only where no condition holds.
-pub record Exactly (P : Profile) (f : Form) (line : List ℕ) : Type 0 where
+pub record Exactly (P : Profile) (k : LineKind) (line : List ℕ) : Type 0 where
   pub isRead :
-      (ns : List ℕ) → readLine P f line ≡ values ns
-      → LineWellFormed P f (split space line) × (LineUnknown P f (split space line) → ⊥) × (LineOutside P f (split space line) → ⊥)
-  pub is20 : (readLine P f line ≡ refused 20) ↔ (LineWellFormed P f (split space line) → ⊥)
-  pub is21 : (readLine P f line ≡ refused 21) ↔ (LineWellFormed P f (split space line) × LineUnknown P f (split space line))
+      (ns : List ℕ) → readLine P k line ≡ values ns
+      → LineWellFormed P k (split space line) × (LineUnknown P k (split space line) → ⊥) × (LineOutside P k (split space line) → ⊥)
+  pub is20 : (readLine P k line ≡ refused 20) ↔ (LineWellFormed P k (split space line) → ⊥)
+  pub is21 : (readLine P k line ≡ refused 21) ↔ (LineWellFormed P k (split space line) × LineUnknown P k (split space line))
   pub is22 :
-      (readLine P f line ≡ refused 22)
-      ↔ (LineWellFormed P f (split space line) × (LineUnknown P f (split space line) → ⊥) × LineOutside P f (split space line))
-  pub others : (k : ℕ) → readLine P f line ≡ refused k → (k ≡ 20) ⊎ ((k ≡ 21) ⊎ (k ≡ 22))
+      (readLine P k line ≡ refused 22)
+      ↔ (LineWellFormed P k (split space line) × (LineUnknown P k (split space line) → ⊥) × LineOutside P k (split space line))
+  pub others : (n : ℕ) → readLine P k line ≡ refused n → (n ≡ 20) ⊎ ((n ≡ 21) ⊎ (n ≡ 22))
 
--- So it is for every line of every form.
+-- An engine's number has 16 bits, like every number of the code.
+abbrev pub Has16Bits : LineKind → Type 0
+Has16Bits Op = Unit {0}
+Has16Bits (Plan i) = i ≤ 65535
+Has16Bits Row = Unit {0}
+Has16Bits Spare = Unit {0}
+
+-- So it is for every line of every kind.
 abbrev pub RefusesExactly : Type 0
-RefusesExactly = (P : Profile) (f : Form) (line : List ℕ) → Exactly P f line
+RefusesExactly = (P : Profile) (k : LineKind) (line : List ℕ) → Has16Bits k → Exactly P k line

@@ -5,7 +5,7 @@ use mathlib.Core.Bool.{Bool, true, cond, _&&_}
 use mathlib.Core.List.{List, [], _∷_, _++_}
 use lib.Dec.{eqb}
 use lib.ListN.{getD}
-use Rattle.text.specs.Bytes.{ascii, equalsSign, same, valueOf, isWord, isPair}
+use Rattle.text.specs.Bytes.{ascii, equalsSign, same, valueOf, isKeyword, isPair}
 use Rattle.text.specs.Number.{readNumber, decimalOf}
 use Rattle.text.specs.declared.Decimal.{Decimal}
 use Rattle.text.specs.declared.Decimal.the-variants as decimal
@@ -14,11 +14,11 @@ use Rattle.word.specs.Profile.{Range}
 use Rattle.grammar.specs.declared.Value.{Value}
 use Rattle.grammar.specs.declared.Value.the-variants.{Number, Malformed, Outside}
 
--- What the value of a pair may be: a decimal number in one of some ranges; one of some words, which stands for its place among them; or
+-- What the value of a pair may be: a decimal number in one of some ranges; one of some keywords, which stands for its place among them; or
 -- yes or no, where the line ends after a no.
 pub data Kind : Type 0 where
   number : List Range → Kind
-  word : List (List ℕ) → Kind
+  keyword : List (List ℕ) → Kind
   decision : Kind
 
 -- yes stands for 0, no for 1.
@@ -35,14 +35,14 @@ pub data Reading : Type 0 where
   values : List ℕ → Reading
   refused : ℕ → Reading
 
--- The place of a word among some, counted from i.
+-- The place of a keyword among some, counted from i.
 unfoldable pub placeOf : List (List ℕ) → ℕ → List ℕ → Value
 placeOf [] i v = Outside
 placeOf (w ∷ ws) i v = cond (same v w) (Number i) (placeOf ws (i + 1) v)
 
--- "a word that isn't allowed .. is 22"; a value that is no word at all is malformed.
-unfoldable pub readWord : List (List ℕ) → List ℕ → Value
-readWord ws v = cond (isWord v) (placeOf ws 0 v) Malformed
+-- "a word that isn't allowed .. is 22"; a value that is no keyword at all is malformed.
+unfoldable pub readKeyword : List (List ℕ) → List ℕ → Value
+readKeyword ws v = cond (isKeyword v) (placeOf ws 0 v) Malformed
 
 -- "operand outside its field" is 22. No field goes beyond 65535.
 unfoldable pub held : List Range → Decimal → Value
@@ -52,8 +52,8 @@ held rs decimal.Outside = Outside
 
 unfoldable pub readValue : Kind → List ℕ → Value
 readValue (number rs) v = held rs (readNumber 65535 v)
-readValue (word ws) v = readWord ws v
-readValue decision v = readWord answers v
+readValue (keyword ws) v = readKeyword ws v
+readValue decision v = readKeyword answers v
 
 -- The value of a pair that has to be f. A pair with another key has no value, and is malformed.
 unfoldable pub readPair : Pair → List ℕ → Value
@@ -89,7 +89,7 @@ decided Outside r ps = unknown 22 ps
 
 unfoldable pub followed : Kind → Value → Reading → List (List ℕ) → Reading
 followed (number rs) d r ps = before d r
-followed (word ws) d r ps = before d r
+followed (keyword ws) d r ps = before d r
 followed decision d r ps = decided d r ps
 
 -- The parts of a line, read by a form: each pair in its place, and none missing or more.
@@ -102,7 +102,7 @@ readForm (f ∷ fs) (p ∷ ps) = followed (f .kind) (readPair f p) (readForm fs 
 
 unfoldable pub writeValue : Kind → ℕ → List ℕ
 writeValue (number rs) n = decimalOf n
-writeValue (word ws) n = getD ws n []
+writeValue (keyword ws) n = getD ws n []
 writeValue decision n = getD answers n []
 
 unfoldable pub writePair : Pair → ℕ → List ℕ
@@ -111,7 +111,7 @@ writePair f n = f .key ++ (equalsSign ∷ writeValue (f .kind) n)
 -- What is written after a value: the rest, but nothing after a no.
 unfoldable pub continued : Kind → ℕ → List (List ℕ) → List (List ℕ)
 continued (number rs) n ps = ps
-continued (word ws) n ps = ps
+continued (keyword ws) n ps = ps
 continued decision n ps = cond (eqb n 0) ps []
 
 -- The pairs of a line with these values.

@@ -20,9 +20,9 @@ use Rattle.word.specs.declared.Word.{Word}
 use Rattle.word.specs.declared.Word.the-variants.{Rst, Ramp, Wait, Set, RampVar, SetVar, BranchVar, Jump, Arith, ArithVar, MuxAt, MuxClr, MuxSel, MuxMove, Branch, End, Int, Trigger}
 use Rattle.grammar.specs.declared.Value.{Value}
 use Rattle.grammar.specs.declared.Value.the-variants.{Number, Malformed, Outside}
-use Rattle.grammar.specs.declared.Form.{Form}
-use Rattle.grammar.specs.declared.Form.the-variants.{Op, Engine1, Engine2, Engine3, Row, Spare}
-use Rattle.grammar.specs.Form.{number, word, decision, Pair, Reading, refused, before, unknown, readWord, readForm, writeForm}
+use Rattle.grammar.specs.declared.LineKind.{LineKind}
+use Rattle.grammar.specs.declared.LineKind.the-variants.{Op, Plan, Row, Spare}
+use Rattle.grammar.specs.Form.{number, keyword, decision, Pair, Reading, refused, before, unknown, readKeyword, readForm, writeForm}
 
 -- "Variables are written A, B, C, D"; D can't be written to.
 abbrev pub variables : List (List ℕ)
@@ -38,10 +38,10 @@ directions = ascii "up" ∷ ascii "down" ∷ []
 abbrev pub directionOf : ℕ → Direction
 directionOf n = cond (eqb n 0) Up Down
 
--- A pair whose value is one of some words, or yes or no.
+-- A pair whose value is one of some keywords, or yes or no.
 infix 70 _among_
 abbrev pub _among_ : String → List (List ℕ) → Pair
-k among ws = record { key = ascii k; kind = word ws }
+k among ws = record { key = ascii k; kind = keyword ws }
 
 abbrev pub asks : String → Pair
 asks k = record { key = ascii k; kind = decision }
@@ -96,12 +96,15 @@ module _ (P : Profile) where
       op "int" [] (λ _ _ _ _. Int) ∷
       op "trigger" ("wait" within triggers ∷ "send" within triggers ∷ []) (λ w x _ _. Trigger w x) ∷ []
 
-  -- "engine=1 use=yes first=0 last=6 table=no", "engine=3 use=no", "table=yes top=20 bottom=23".
-  unfoldable pub planForm : ℕ → List Pair
-  planForm i =
-      record { key = ascii "engine"; kind = number (i to i ∷ []) } ∷
+  -- "engine=1 use=yes first=0 last=6 table=no", "engine=3 use=no", "table=yes top=20 bottom=23": the pairs after the engine's number.
+  abbrev pub planPairs : List Pair
+  planPairs =
       asks "use" ∷ "first" within address ∷ "last" within address ∷
       asks "table" ∷ "top" within address ∷ "bottom" within address ∷ []
+
+  -- The plan line of engine i.
+  unfoldable pub planForm : ℕ → List Pair
+  planForm i = record { key = ascii "engine"; kind = number (i to i ∷ []) } ∷ planPairs
 
   unfoldable pub opNames : List (List ℕ)
   opNames = map (λ (l : OpLine). l .name) opLines
@@ -126,19 +129,17 @@ named P Outside ps = unknown 21 ps
 
 unfoldable pub readOp : Profile → List (List ℕ) → Reading
 readOp P [] = refused 20
-readOp P (p ∷ ps) = named P (readWord (opNames P) (valueOf (ascii "op") p)) ps
+readOp P (p ∷ ps) = named P (readKeyword (opNames P) (valueOf (ascii "op") p)) ps
 
--- The values of a line of one of the forms.
-unfoldable pub readParts : Profile → Form → List (List ℕ) → Reading
+-- The values of a line of one of the kinds.
+unfoldable pub readParts : Profile → LineKind → List (List ℕ) → Reading
 readParts P Op ps = readOp P ps
-readParts P Engine1 ps = readForm (planForm P 1) ps
-readParts P Engine2 ps = readForm (planForm P 2) ps
-readParts P Engine3 ps = readForm (planForm P 3) ps
+readParts P (Plan i) ps = readForm (planForm P i) ps
 readParts P Row ps = readForm (wordForm "row") ps
 readParts P Spare ps = readForm (wordForm "spare") ps
 
-unfoldable pub readLine : Profile → Form → List ℕ → Reading
-readLine P f line = readParts P f (split space line)
+unfoldable pub readLine : Profile → LineKind → List ℕ → Reading
+readLine P k line = readParts P k (split space line)
 
 -- ---- writing
 
@@ -146,14 +147,12 @@ unfoldable pub writeOp : Profile → List ℕ → List (List ℕ)
 writeOp P [] = []
 writeOp P (o ∷ ns) = (ascii "op" ++ (equalsSign ∷ getD (opNames P) o [])) ∷ writeForm (opForm P o) ns
 
-unfoldable pub writeParts : Profile → Form → List ℕ → List (List ℕ)
+unfoldable pub writeParts : Profile → LineKind → List ℕ → List (List ℕ)
 writeParts P Op ns = writeOp P ns
-writeParts P Engine1 ns = writeForm (planForm P 1) ns
-writeParts P Engine2 ns = writeForm (planForm P 2) ns
-writeParts P Engine3 ns = writeForm (planForm P 3) ns
+writeParts P (Plan i) ns = writeForm (planForm P i) ns
 writeParts P Row ns = writeForm (wordForm "row") ns
 writeParts P Spare ns = writeForm (wordForm "spare") ns
 
 -- A line with these values, without its LF.
-unfoldable pub writeLine : Profile → Form → List ℕ → List ℕ
-writeLine P f ns = join space (writeParts P f ns)
+unfoldable pub writeLine : Profile → LineKind → List ℕ → List ℕ
+writeLine P k ns = join space (writeParts P k ns)

@@ -1,25 +1,51 @@
--- The grammar as the tables that the functions go by, and what they answer from them. That the tables are the grammar's is proved; nothing
--- here has to be believed.
+-- The grammar as the tables that the functions go by, and what they answer from them. That the tables are the grammar's is proved. Contracts
+-- of public functions speak of `valuesOf`, `listOf` and `lineReadOf`; nothing else here has to be believed.
 use Prim.Native.Nat.{ℕ, min}
 use mathlib.Core.Bool.{Bool, true, false, not, cond}
 use mathlib.Core.List.{List, [], _∷_, _++_, map}
 use lib.Dec.{eqb, leb}
 use lib.ListN.{length, getD, drop}
 use Rattle.text.specs.Bytes.{ascii, space, split}
-use Rattle.word.specs.Profile.{LP5523, Range, _to_}
+use Rattle.word.specs.Profile.{LP5523, Range}
 use Rattle.word.specs.Field.{flag, time, byte, skip, loops, step, address, output, triggers, rangesOf}
 use Rattle.grammar.specs.declared.Value.{Value}
 use Rattle.grammar.specs.declared.Value.the-variants.{Number, Malformed, Outside}
 use Rattle.grammar.specs.declared.Values.{Values}
 use Rattle.grammar.specs.declared.LineRead.{LineRead}
 use Rattle.grammar.specs.declared.LineRead.the-variants.{Read, Refused}
-use Rattle.grammar.specs.Form.{Kind, number, word, decision, answers, Pair, Reading, values, refused, before, atEnd, unknown}
-use Rattle.grammar.specs.Grammar.{OpLine, opLines, opNames, directions, variables, targets, planForm}
+use Rattle.grammar.specs.Form.{Kind, number, keyword, decision, answers, Pair, Reading, values, refused, before, atEnd, unknown}
+use Rattle.grammar.specs.Grammar.{OpLine, opLines, opNames, directions, variables, targets, planPairs}
+
+-- How many entries the tables have: operations, names, the bytes of all names, kinds of numbers, all kinds, pairs, forms.
+abbrev pub opCount : ℕ
+opCount = 31
+
+abbrev pub nameCount : ℕ
+nameCount = 63
+
+abbrev pub byteCount : ℕ
+byteCount = 331
+
+abbrev pub numberKinds : ℕ
+numberKinds = 9
+
+abbrev pub kindCount : ℕ
+kindCount = 13
+
+abbrev pub pairCount : ℕ
+pairCount = 56
+
+abbrev pub formCount : ℕ
+formCount = 32
+
+-- The place of the kind of a yes or no.
+abbrev pub decisionKind : ℕ
+decisionKind = 12
 
 unfoldable pub keys : List (List ℕ)
-keys = ascii "prescale" ∷ ascii "time" ∷ ascii "dir" ∷ ascii "count" ∷ ascii "value" ∷ ascii "from" ∷ ascii "loops" ∷ ascii "step" ∷ ascii "skip" ∷ ascii "left" ∷ ascii "right" ∷ ascii "to" ∷ ascii "address" ∷ ascii "output" ∷ ascii "int" ∷ ascii "reset" ∷ ascii "wait" ∷ ascii "send" ∷ ascii "engine" ∷ ascii "use" ∷ ascii "first" ∷ ascii "last" ∷ ascii "table" ∷ ascii "top" ∷ ascii "bottom" ∷ []
+keys = ascii "prescale" ∷ ascii "time" ∷ ascii "dir" ∷ ascii "count" ∷ ascii "value" ∷ ascii "from" ∷ ascii "loops" ∷ ascii "step" ∷ ascii "skip" ∷ ascii "left" ∷ ascii "right" ∷ ascii "to" ∷ ascii "address" ∷ ascii "output" ∷ ascii "int" ∷ ascii "reset" ∷ ascii "wait" ∷ ascii "send" ∷ ascii "use" ∷ ascii "first" ∷ ascii "last" ∷ ascii "table" ∷ ascii "top" ∷ ascii "bottom" ∷ []
 
--- Every name in a sheet: operations, words, keys.
+-- Every name in a sheet: operations, keywords, keys.
 unfoldable pub names : List (List ℕ)
 names = opNames LP5523 ++ (directions ++ (variables ++ (answers ++ keys)))
 
@@ -34,12 +60,9 @@ kinds =
     number (rangesOf LP5523 address) ∷
     number (rangesOf LP5523 output) ∷
     number (rangesOf LP5523 triggers) ∷
-    number (1 to 1 ∷ []) ∷
-    number (2 to 2 ∷ []) ∷
-    number (3 to 3 ∷ []) ∷
-    word directions ∷
-    word variables ∷
-    word targets ∷
+    keyword directions ∷
+    keyword variables ∷
+    keyword targets ∷
     decision ∷ []
 
 unfoldable pub kindAt : ℕ → Kind
@@ -48,17 +71,16 @@ kindAt k = getD kinds k decision
 -- The ranges of a kind of numbers.
 abbrev pub rangesIn : Kind → List Range
 rangesIn (number rs) = rs
-rangesIn (word ws) = []
+rangesIn (keyword ws) = []
 rangesIn decision = []
 
 unfoldable pub rangesAt : ℕ → List Range
 rangesAt k = rangesIn (kindAt k)
 
--- The forms of more than one pair: the operations' in the table's order, then the plan lines'.
+-- What follows the first pair of a line: of the operations in the table's order, then of a plan line.
 unfoldable pub forms : List (List Pair)
 forms =
-    map (λ (l : OpLine). l .form) (opLines LP5523) ++
-    (planForm LP5523 1 ∷ planForm LP5523 2 ∷ planForm LP5523 3 ∷ [])
+    map (λ (l : OpLine). l .form) (opLines LP5523) ++ (planPairs LP5523 ∷ [])
 
 abbrev pub concat : List (List Pair) → List Pair
 concat [] = []
@@ -77,7 +99,7 @@ formOf k = getD forms k []
 -- Whether the pairs after a value are left out.
 unfoldable pub stopsAt : Kind → Value → Bool
 stopsAt (number rs) v = false
-stopsAt (word ws) v = false
+stopsAt (keyword ws) v = false
 stopsAt decision (Number n) = not (eqb n 0)
 stopsAt decision Malformed = true
 stopsAt decision Outside = true

@@ -8,15 +8,15 @@ use lib.ListN.{length}
 use Rattle.text.specs.Bytes.{lineFeed, lacks}
 use Rattle.word.specs.Profile.{Profile}
 use Rattle.word.specs.Field.{inside}
-use Rattle.grammar.specs.declared.Form.{Form}
-use Rattle.grammar.specs.declared.Form.the-variants.{Op, Engine1, Engine2, Engine3, Row, Spare}
-use Rattle.grammar.specs.Form.{Kind, number, word, decision, answers, Pair, values}
+use Rattle.grammar.specs.declared.LineKind.{LineKind}
+use Rattle.grammar.specs.declared.LineKind.the-variants.{Op, Plan, Row, Spare}
+use Rattle.grammar.specs.Form.{Kind, number, keyword, decision, answers, Pair, values}
 use Rattle.grammar.specs.Grammar.{opLines, opForm, planForm, wordForm, readLine, writeLine}
 
 -- Whether a number can be written as a value of a kind.
 abbrev pub fitsKind : Kind → ℕ → Bool
 fitsKind (number rs) n = leb n 65535 && inside rs n
-fitsKind (word ws) n = ltb n (length ws)
+fitsKind (keyword ws) n = ltb n (length ws)
 fitsKind decision n = ltb n (length answers)
 
 abbrev pub isEmpty : List ℕ → Bool
@@ -26,7 +26,7 @@ isEmpty (n ∷ ns) = false
 -- Whether values fit after one: r says whether they fit the rest of the form; after a no there are none.
 abbrev pub fitsAfter : Kind → ℕ → Bool → List ℕ → Bool
 fitsAfter (number rs) n r ns = r
-fitsAfter (word ws) n r ns = r
+fitsAfter (keyword ws) n r ns = r
 fitsAfter decision n r ns = cond (eqb n 0) r (isEmpty ns)
 
 -- Whether values fit a form, one for each pair up to the line's end.
@@ -39,25 +39,23 @@ unfoldable pub fitsOp : Profile → List ℕ → Bool
 fitsOp P [] = false
 fitsOp P (o ∷ ns) = ltb o (length (opLines P)) && fitsForm (opForm P o) ns
 
-unfoldable pub fitsLine : Profile → Form → List ℕ → Bool
+unfoldable pub fitsLine : Profile → LineKind → List ℕ → Bool
 fitsLine P Op ns = fitsOp P ns
-fitsLine P Engine1 ns = fitsForm (planForm P 1) ns
-fitsLine P Engine2 ns = fitsForm (planForm P 2) ns
-fitsLine P Engine3 ns = fitsForm (planForm P 3) ns
+fitsLine P (Plan i) ns = fitsForm (planForm P i) ns
 fitsLine P Row ns = fitsForm (wordForm "row") ns
 fitsLine P Spare ns = fitsForm (wordForm "spare") ns
 
 -- A line that is read without refusal is written again as the same bytes.
 abbrev pub ReadWrites : Type 0
-ReadWrites = (P : Profile) (f : Form) (line ns : List ℕ) → readLine P f line ≡ values ns → writeLine P f ns ≡ line
+ReadWrites = (P : Profile) (k : LineKind) (line ns : List ℕ) → readLine P k line ≡ values ns → writeLine P k ns ≡ line
 
 -- A line that is written is read back as the same values, wherever they fit its form; and only such values are read.
 abbrev pub WrittenReads : Type 0
-WrittenReads = (P : Profile) (f : Form) (ns : List ℕ) → fitsLine P f ns ≡ true → readLine P f (writeLine P f ns) ≡ values ns
+WrittenReads = (P : Profile) (k : LineKind) (ns : List ℕ) → fitsLine P k ns ≡ true → readLine P k (writeLine P k ns) ≡ values ns
 
 abbrev pub ReadFits : Type 0
-ReadFits = (P : Profile) (f : Form) (line ns : List ℕ) → readLine P f line ≡ values ns → fitsLine P f ns ≡ true
+ReadFits = (P : Profile) (k : LineKind) (line ns : List ℕ) → readLine P k line ≡ values ns → fitsLine P k ns ≡ true
 
 -- No line that is written has a line feed in it.
 abbrev pub WrittenLacks : Type 0
-WrittenLacks = (P : Profile) (f : Form) (ns : List ℕ) → lacks lineFeed (writeLine P f ns) ≡ true
+WrittenLacks = (P : Profile) (k : LineKind) (ns : List ℕ) → lacks lineFeed (writeLine P k ns) ≡ true

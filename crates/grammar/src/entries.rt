@@ -1,620 +1,398 @@
 // The grammar as tables. proofs/Tables.antt has them as lists, and that these are the grammar's; the
 // proofs of the functions hold the tables to the lists.
 
-// The names in a sheet: operations, words and keys, one after the other.
-pub const NAMES: [u8; 337] = [
-    b'r',
-    b's',
-    b't',
-    b'r',
-    b'a',
-    b'm',
-    b'p',
-    b'w',
-    b'a',
-    b'i',
-    b't',
-    b's',
-    b'e',
-    b't',
-    b'r',
-    b'a',
-    b'm',
-    b'p',
-    b'-',
-    b'v',
-    b'a',
-    b'r',
-    b's',
-    b'e',
-    b't',
-    b'-',
-    b'v',
-    b'a',
-    b'r',
-    b'b',
-    b'r',
-    b'a',
-    b'n',
-    b'c',
-    b'h',
-    b'-',
-    b'v',
-    b'a',
-    b'r',
-    b'j',
-    b'n',
-    b'e',
-    b'j',
-    b'l',
-    b'j',
-    b'g',
-    b'e',
-    b'j',
-    b'e',
-    b'l',
-    b'd',
-    b'a',
-    b'd',
-    b'd',
-    b's',
-    b'u',
-    b'b',
-    b'a',
-    b'd',
-    b'd',
-    b'-',
-    b'v',
-    b'a',
-    b'r',
-    b's',
-    b'u',
-    b'b',
-    b'-',
-    b'v',
-    b'a',
-    b'r',
-    b'm',
-    b'u',
-    b'x',
-    b'-',
-    b'm',
-    b'a',
-    b'p',
-    b'-',
-    b's',
-    b't',
-    b'a',
-    b'r',
-    b't',
-    b'm',
-    b'u',
-    b'x',
-    b'-',
-    b'l',
-    b'd',
-    b'-',
-    b'e',
-    b'n',
-    b'd',
-    b'm',
-    b'u',
-    b'x',
-    b'-',
-    b'l',
-    b'd',
-    b'-',
-    b's',
-    b't',
-    b'a',
-    b'r',
-    b't',
-    b'm',
-    b'u',
-    b'x',
-    b'-',
-    b'l',
-    b'd',
-    b'-',
-    b'a',
-    b'd',
-    b'd',
-    b'r',
-    b'm',
-    b'u',
-    b'x',
-    b'-',
-    b'm',
-    b'a',
-    b'p',
-    b'-',
-    b'a',
-    b'd',
-    b'd',
-    b'r',
-    b'm',
-    b'u',
-    b'x',
-    b'-',
-    b'c',
-    b'l',
-    b'r',
-    b'm',
-    b'u',
-    b'x',
-    b'-',
-    b's',
-    b'e',
-    b'l',
-    b'm',
-    b'u',
-    b'x',
-    b'-',
-    b'm',
-    b'a',
-    b'p',
-    b'-',
-    b'n',
-    b'e',
-    b'x',
-    b't',
-    b'm',
-    b'u',
-    b'x',
-    b'-',
-    b'l',
-    b'd',
-    b'-',
-    b'n',
-    b'e',
-    b'x',
-    b't',
-    b'm',
-    b'u',
-    b'x',
-    b'-',
-    b'm',
-    b'a',
-    b'p',
-    b'-',
-    b'p',
-    b'r',
-    b'e',
-    b'v',
-    b'm',
-    b'u',
-    b'x',
-    b'-',
-    b'l',
-    b'd',
-    b'-',
-    b'p',
-    b'r',
-    b'e',
-    b'v',
-    b'b',
-    b'r',
-    b'a',
-    b'n',
-    b'c',
-    b'h',
-    b'e',
-    b'n',
-    b'd',
-    b'i',
-    b'n',
-    b't',
-    b't',
-    b'r',
-    b'i',
-    b'g',
-    b'g',
-    b'e',
-    b'r',
-    b'u',
-    b'p',
-    b'd',
-    b'o',
-    b'w',
-    b'n',
-    b'A',
-    b'B',
-    b'C',
-    b'D',
-    b'y',
-    b'e',
-    b's',
-    b'n',
-    b'o',
-    b'p',
-    b'r',
-    b'e',
-    b's',
-    b'c',
-    b'a',
-    b'l',
-    b'e',
-    b't',
-    b'i',
-    b'm',
-    b'e',
-    b'd',
-    b'i',
-    b'r',
-    b'c',
-    b'o',
-    b'u',
-    b'n',
-    b't',
-    b'v',
-    b'a',
-    b'l',
-    b'u',
-    b'e',
-    b'f',
-    b'r',
-    b'o',
-    b'm',
-    b'l',
-    b'o',
-    b'o',
-    b'p',
-    b's',
-    b's',
-    b't',
-    b'e',
-    b'p',
-    b's',
-    b'k',
-    b'i',
-    b'p',
-    b'l',
-    b'e',
-    b'f',
-    b't',
-    b'r',
-    b'i',
-    b'g',
-    b'h',
-    b't',
-    b't',
-    b'o',
-    b'a',
-    b'd',
-    b'd',
-    b'r',
-    b'e',
-    b's',
-    b's',
-    b'o',
-    b'u',
-    b't',
-    b'p',
-    b'u',
-    b't',
-    b'i',
-    b'n',
-    b't',
-    b'r',
-    b'e',
-    b's',
-    b'e',
-    b't',
-    b'w',
-    b'a',
-    b'i',
-    b't',
-    b's',
-    b'e',
-    b'n',
-    b'd',
-    b'e',
-    b'n',
-    b'g',
-    b'i',
-    b'n',
-    b'e',
-    b'u',
-    b's',
-    b'e',
-    b'f',
-    b'i',
-    b'r',
-    b's',
-    b't',
-    b'l',
-    b'a',
-    b's',
-    b't',
-    b't',
-    b'a',
-    b'b',
-    b'l',
-    b'e',
-    b't',
-    b'o',
-    b'p',
-    b'b',
-    b'o',
-    b't',
-    b't',
-    b'o',
-    b'm',
-];
+// The operations; their names come first, and so do their forms.
+pub const OPS: usize = 31;
+
+const NAME_COUNT: usize = 63;
+
+const NAME_BYTES: usize = 331;
+
+// The names in a sheet, one after the other: operations, the keywords of values, keys.
+pub const NAMES: [u8; NAME_BYTES] = *b"rstrampwaitsetramp-varset-varbranch-varjnejljgejeldadd\
+subadd-varsub-varmux-map-startmux-ld-endmux-ld-startmux-ld-addrmux-map-addr\
+mux-clrmux-selmux-map-nextmux-ld-nextmux-map-prevmux-ld-prevbranchendinttrigger\
+updownABCDyesno\
+prescaletimedircountvaluefromloopsstepskipleftrighttoaddress\
+outputintresetwaitsendusefirstlasttabletopbottom";
 
 // Where each name begins; the last entry is where the last one ends.
-pub const NAME_AT: [u16; 65] = [
-    0,
-    3,
-    7,
-    11,
-    14,
-    22,
-    29,
-    39,
-    42,
-    44,
-    47,
-    49,
-    51,
-    54,
-    57,
-    64,
-    71,
-    84,
-    94,
-    106,
-    117,
-    129,
-    136,
-    143,
-    155,
-    166,
-    178,
-    189,
-    195,
-    198,
-    201,
-    208,
-    210,
-    214,
-    215,
-    216,
-    217,
-    218,
-    221,
-    223,
-    231,
-    235,
-    238,
-    243,
-    248,
-    252,
-    257,
-    261,
-    265,
-    269,
-    274,
-    276,
-    283,
-    289,
-    292,
-    297,
-    301,
-    305,
-    311,
-    314,
-    319,
-    323,
-    328,
-    331,
-    337,
+pub const NAME_AT: [u16; NAME_COUNT + 1] = [
+    0, // rst
+    3, // ramp
+    7, // wait
+    11, // set
+    14, // ramp-var
+    22, // set-var
+    29, // branch-var
+    39, // jne
+    42, // jl
+    44, // jge
+    47, // je
+    49, // ld
+    51, // add
+    54, // sub
+    57, // add-var
+    64, // sub-var
+    71, // mux-map-start
+    84, // mux-ld-end
+    94, // mux-ld-start
+    106, // mux-ld-addr
+    117, // mux-map-addr
+    129, // mux-clr
+    136, // mux-sel
+    143, // mux-map-next
+    155, // mux-ld-next
+    166, // mux-map-prev
+    178, // mux-ld-prev
+    189, // branch
+    195, // end
+    198, // int
+    201, // trigger
+    208, // up
+    210, // down
+    214, // A
+    215, // B
+    216, // C
+    217, // D
+    218, // yes
+    221, // no
+    223, // prescale
+    231, // time
+    235, // dir
+    238, // count
+    243, // value
+    248, // from
+    252, // loops
+    257, // step
+    261, // skip
+    265, // left
+    269, // right
+    274, // to
+    276, // address
+    283, // output
+    289, // int
+    292, // reset
+    297, // wait
+    301, // send
+    305, // use
+    308, // first
+    313, // last
+    317, // table
+    322, // top
+    325, // bottom
+    NAME_BYTES as u16,
 ];
 
-// The kinds below this one are of numbers, the others of words.
-pub const NUMBERS: usize = 12;
+// The places of the keywords of values and of the keys among the names.
+const UP: u8 = OPS as u8;
+
+const A: u8 = UP + 2;
+
+const YES: u8 = A + 4;
+
+const PRESCALE: u8 = YES + 2;
+
+const TIME: u8 = PRESCALE + 1;
+
+const DIR: u8 = TIME + 1;
+
+const COUNT: u8 = DIR + 1;
+
+const VALUE: u8 = COUNT + 1;
+
+const FROM: u8 = VALUE + 1;
+
+const LOOPS: u8 = FROM + 1;
+
+const STEP: u8 = LOOPS + 1;
+
+const SKIP: u8 = STEP + 1;
+
+const LEFT: u8 = SKIP + 1;
+
+const RIGHT: u8 = LEFT + 1;
+
+const TO: u8 = RIGHT + 1;
+
+const ADDRESS: u8 = TO + 1;
+
+const OUTPUT: u8 = ADDRESS + 1;
+
+const INT: u8 = OUTPUT + 1;
+
+const RESET: u8 = INT + 1;
+
+const WAIT: u8 = RESET + 1;
+
+const SEND: u8 = WAIT + 1;
+
+const USE: u8 = SEND + 1;
+
+const FIRST: u8 = USE + 1;
+
+const LAST: u8 = FIRST + 1;
+
+const TABLE: u8 = LAST + 1;
+
+const TOP: u8 = TABLE + 1;
+
+const BOTTOM: u8 = TOP + 1;
+
+// The kinds of values: first those of numbers, then those of keywords, the last a yes or no.
+const FLAGS: u8 = 0;
+
+const TIMES: u8 = FLAGS + 1;
+
+const BYTES: u8 = TIMES + 1;
+
+const SKIPS: u8 = BYTES + 1;
+
+const LOOP_COUNTS: u8 = SKIPS + 1;
+
+const STEPS: u8 = LOOP_COUNTS + 1;
+
+const ADDRESSES: u8 = STEPS + 1;
+
+const OUTPUTS: u8 = ADDRESSES + 1;
+
+const TRIGGERS: u8 = OUTPUTS + 1;
+
+const DIRECTIONS: u8 = TRIGGERS + 1;
+
+const VARIABLES: u8 = DIRECTIONS + 1;
+
+const TARGETS: u8 = VARIABLES + 1;
+
+pub const DECISION: u8 = TARGETS + 1;
+
+// The kinds below this one are of numbers, the others of keywords.
+pub const NUMBERS: usize = DIRECTIONS as usize;
 
 // A number lies from LOW to HIGH or from ALSO_LOW to ALSO_HIGH; a kind with one range has it twice.
-pub const LOW: [u16; 12] = [0, 1, 0, 0, 0, 0, 0, 1, 0, 1, 2, 3];
+pub const LOW: [u16; NUMBERS] = [0, 1, 0, 0, 0, 0, 0, 1, 0];
 
-pub const HIGH: [u16; 12] = [1, 31, 255, 31, 63, 127, 95, 9, 7, 1, 2, 3];
+pub const HIGH: [u16; NUMBERS] = [1, 31, 255, 31, 63, 127, 95, 9, 7];
 
-pub const ALSO_LOW: [u16; 12] = [0, 1, 0, 0, 0, 0, 0, 16, 32, 1, 2, 3];
+pub const ALSO_LOW: [u16; NUMBERS] = [0, 1, 0, 0, 0, 0, 0, 16, 32];
 
-pub const ALSO_HIGH: [u16; 12] = [1, 31, 255, 31, 63, 127, 95, 16, 39, 1, 2, 3];
+pub const ALSO_HIGH: [u16; NUMBERS] = [1, 31, 255, 31, 63, 127, 95, 16, 39];
 
-// A word is one of so many names from this one on.
-pub const WORD_FIRST: [u8; 4] = [31, 33, 33, 37];
+// A keyword is one of so many names from this one on.
+pub const KEYWORD_FIRST: [u8; 4] = [UP, A, A, YES];
 
-pub const WORD_COUNT: [u8; 4] = [2, 4, 3, 2];
+pub const KEYWORD_COUNT: [u8; 4] = [2, 4, 3, 2];
 
-// The kind of a yes or no.
-pub const DECISION: u8 = 15;
+// The form of the plan lines.
+pub const PLAN_FORM: usize = OPS;
 
-// The key of each pair, by its place among the names, and its kind.
-pub const PAIR_KEY: [u8; 71] = [
-    39,
-    40,
-    41,
-    42,
-    39,
-    40,
-    43,
-    39,
-    41,
-    40,
-    42,
-    44,
-    45,
-    46,
-    47,
-    48,
-    49,
-    47,
-    48,
-    49,
-    47,
-    48,
-    49,
-    47,
-    48,
-    49,
-    50,
-    43,
-    50,
-    43,
-    50,
-    43,
-    50,
-    48,
-    49,
-    50,
-    48,
-    49,
-    51,
-    51,
-    51,
-    51,
-    51,
-    52,
-    45,
-    46,
-    53,
-    54,
-    55,
-    56,
-    57,
-    58,
-    59,
-    60,
-    61,
-    62,
-    63,
-    57,
-    58,
-    59,
-    60,
-    61,
-    62,
-    63,
-    57,
-    58,
-    59,
-    60,
-    61,
-    62,
-    63,
+const FORM_COUNT: usize = PLAN_FORM + 1;
+
+const PAIR_COUNT: usize = 56;
+
+// The pairs of all forms, one form after the other: of each the place of its key among the names, and its
+// kind. A form here is what follows the first pair of a line, which is `op=` or `engine=`.
+pub const PAIR_KEY: [u8; PAIR_COUNT] = [
+    // ramp
+    PRESCALE,
+    TIME,
+    DIR,
+    COUNT,
+    // wait
+    PRESCALE,
+    TIME,
+    // set
+    VALUE,
+    // ramp-var
+    PRESCALE,
+    DIR,
+    TIME,
+    COUNT,
+    // set-var
+    FROM,
+    // branch-var
+    LOOPS,
+    STEP,
+    // jne
+    SKIP,
+    LEFT,
+    RIGHT,
+    // jl
+    SKIP,
+    LEFT,
+    RIGHT,
+    // jge
+    SKIP,
+    LEFT,
+    RIGHT,
+    // je
+    SKIP,
+    LEFT,
+    RIGHT,
+    // ld
+    TO,
+    VALUE,
+    // add
+    TO,
+    VALUE,
+    // sub
+    TO,
+    VALUE,
+    // add-var
+    TO,
+    LEFT,
+    RIGHT,
+    // sub-var
+    TO,
+    LEFT,
+    RIGHT,
+    // mux-map-start
+    ADDRESS,
+    // mux-ld-end
+    ADDRESS,
+    // mux-ld-start
+    ADDRESS,
+    // mux-ld-addr
+    ADDRESS,
+    // mux-map-addr
+    ADDRESS,
+    // mux-sel
+    OUTPUT,
+    // branch
+    LOOPS,
+    STEP,
+    // end
+    INT,
+    RESET,
+    // trigger
+    WAIT,
+    SEND,
+    // plan
+    USE,
+    FIRST,
+    LAST,
+    TABLE,
+    TOP,
+    BOTTOM,
 ];
 
-pub const PAIR_KIND: [u8; 71] = [
-    0,
-    1,
-    12,
-    2,
-    0,
-    1,
-    2,
-    0,
-    12,
-    13,
-    13,
-    13,
-    13,
-    5,
-    3,
-    13,
-    13,
-    3,
-    13,
-    13,
-    3,
-    13,
-    13,
-    3,
-    13,
-    13,
-    14,
-    2,
-    14,
-    2,
-    14,
-    2,
-    14,
-    13,
-    13,
-    14,
-    13,
-    13,
-    6,
-    6,
-    6,
-    6,
-    6,
-    7,
-    4,
-    5,
-    0,
-    0,
-    8,
-    8,
-    9,
-    15,
-    6,
-    6,
-    15,
-    6,
-    6,
-    10,
-    15,
-    6,
-    6,
-    15,
-    6,
-    6,
-    11,
-    15,
-    6,
-    6,
-    15,
-    6,
-    6,
+pub const PAIR_KIND: [u8; PAIR_COUNT] = [
+    // ramp
+    FLAGS,
+    TIMES,
+    DIRECTIONS,
+    BYTES,
+    // wait
+    FLAGS,
+    TIMES,
+    // set
+    BYTES,
+    // ramp-var
+    FLAGS,
+    DIRECTIONS,
+    VARIABLES,
+    VARIABLES,
+    // set-var
+    VARIABLES,
+    // branch-var
+    VARIABLES,
+    STEPS,
+    // jne
+    SKIPS,
+    VARIABLES,
+    VARIABLES,
+    // jl
+    SKIPS,
+    VARIABLES,
+    VARIABLES,
+    // jge
+    SKIPS,
+    VARIABLES,
+    VARIABLES,
+    // je
+    SKIPS,
+    VARIABLES,
+    VARIABLES,
+    // ld
+    TARGETS,
+    BYTES,
+    // add
+    TARGETS,
+    BYTES,
+    // sub
+    TARGETS,
+    BYTES,
+    // add-var
+    TARGETS,
+    VARIABLES,
+    VARIABLES,
+    // sub-var
+    TARGETS,
+    VARIABLES,
+    VARIABLES,
+    // mux-map-start
+    ADDRESSES,
+    // mux-ld-end
+    ADDRESSES,
+    // mux-ld-start
+    ADDRESSES,
+    // mux-ld-addr
+    ADDRESSES,
+    // mux-map-addr
+    ADDRESSES,
+    // mux-sel
+    OUTPUTS,
+    // branch
+    LOOP_COUNTS,
+    STEPS,
+    // end
+    FLAGS,
+    FLAGS,
+    // trigger
+    TRIGGERS,
+    TRIGGERS,
+    // plan
+    DECISION,
+    ADDRESSES,
+    ADDRESSES,
+    DECISION,
+    ADDRESSES,
+    ADDRESSES,
 ];
 
 // Where each form begins; the last entry is where the last one ends.
-pub const FORM_AT: [u8; 35] = [
-    0,
-    0,
-    4,
-    6,
-    7,
-    11,
-    12,
-    14,
-    17,
-    20,
-    23,
-    26,
-    28,
-    30,
-    32,
-    35,
-    38,
-    39,
-    40,
-    41,
-    42,
-    43,
-    43,
-    44,
-    44,
-    44,
-    44,
-    44,
-    46,
-    48,
-    48,
-    50,
-    57,
-    64,
-    71,
+pub const FORM_AT: [u8; FORM_COUNT + 1] = [
+    0, // rst
+    0, // ramp
+    4, // wait
+    6, // set
+    7, // ramp-var
+    11, // set-var
+    12, // branch-var
+    14, // jne
+    17, // jl
+    20, // jge
+    23, // je
+    26, // ld
+    28, // add
+    30, // sub
+    32, // add-var
+    35, // sub-var
+    38, // mux-map-start
+    39, // mux-ld-end
+    40, // mux-ld-start
+    41, // mux-ld-addr
+    42, // mux-map-addr
+    43, // mux-clr
+    43, // mux-sel
+    44, // mux-map-next
+    44, // mux-ld-next
+    44, // mux-map-prev
+    44, // mux-ld-prev
+    44, // branch
+    46, // end
+    48, // int
+    48, // trigger
+    50, // plan
+    PAIR_COUNT as u8,
 ];

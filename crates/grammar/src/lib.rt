@@ -7,26 +7,27 @@ pub use entries::ALSO_LOW;
 pub use entries::DECISION;
 pub use entries::FORM_AT;
 pub use entries::HIGH;
+pub use entries::KEYWORD_COUNT;
+pub use entries::KEYWORD_FIRST;
 pub use entries::LOW;
 pub use entries::NAME_AT;
 pub use entries::NAMES;
 pub use entries::NUMBERS;
+pub use entries::OPS;
 pub use entries::PAIR_KEY;
 pub use entries::PAIR_KIND;
-pub use entries::WORD_COUNT;
-pub use entries::WORD_FIRST;
+pub use entries::PLAN_FORM;
 
-// The forms of a sheet's lines.
-pub enum Form {
+// The kinds of a sheet's lines.
+pub enum LineKind {
     Op,
-    Engine1,
-    Engine2,
-    Engine3,
+    // the plan of the engine with this number; engines are counted from 1
+    Plan(u16),
     Row,
     Spare,
 }
 
-// A value: a number, or the place of a word among those allowed; or why there is none.
+// A value: a number, or the place of a keyword among those allowed; or why there is none.
 pub enum Value {
     Number(u16),
     Malformed,
@@ -34,7 +35,7 @@ pub enum Value {
 }
 
 // The values of a line's pairs in their order, 0 past the last. The first value of an op line is the
-// operation's place in document 01's table; a word stands for its place among those allowed.
+// operation's place in document 01's table; a keyword stands for its place among those allowed.
 pub struct Values {
     pub a: u16,
     pub b: u16,

@@ -1,4 +1,4 @@
--- One turn of each walk: over the parts of a line, the pairs of a form and the words of a table.
+-- One turn of each walk: over the parts of a line, the pairs of a form and the keywords of a table.
 use Prim.Native.Nat.{ℕ, suc, _+_, _-_, _≤_, _<_}
 use mathlib.Core.Bool.{Bool, true, false, cond, _&&_, false≢true}
 use mathlib.Core.List.{List, [], _∷_}
@@ -15,16 +15,16 @@ use Rattle.text.specs.Bytes.{ascii, space, split, partAt, same, valueOf, isPair
 use Rattle.text.specs.Number.{readNumber}
 use Rattle.text.proofs.Splits.{part-within, split-at-some, split-at-none}
 use Rattle.word.specs.Field.{upto}
-use Rattle.word.specs.Profile.{LP5523}
+use Rattle.word.specs.Profile.{LP5523, _to_}
 use Rattle.grammar.specs.declared.Value.{Value}
 use Rattle.grammar.specs.declared.Value.the-variants.{Number, Malformed, Outside}
-use Rattle.grammar.specs.Form.{Kind, number, word, decision, Pair, Reading, values, refused, placeOf, readWord, held, readValue, readPair, before, allPairs, atEnd, decided, followed, readForm}
-use Rattle.grammar.specs.Grammar.{number16, named, readOp}
-use Rattle.grammar.specs.Tables.{names, pairs, pairAt, formOf, stopsAt, stoppedBy, partsFrom, valuesOf, lineReadOf, beforeRead}
+use Rattle.grammar.specs.Form.{Kind, number, keyword, decision, Pair, Reading, values, refused, placeOf, readKeyword, held, readValue, readPair, before, allPairs, atEnd, decided, followed, readForm}
+use Rattle.grammar.specs.Grammar.{planForm, number16, named, readOp}
+use Rattle.grammar.specs.Tables.{opCount, nameCount, pairCount, names, pairs, pairAt, formOf, stopsAt, stoppedBy, partsFrom, valuesOf, lineReadOf, beforeRead}
 use Rattle.grammar.proofs.Value as variants
-use Rattle.grammar.proofs.Places.{word-read}
+use Rattle.grammar.proofs.Places.{keyword-read}
 use Rattle.grammar.proofs.Ranges.{other-value}
-use Rattle.grammar.proofs.Tables.{names-length, ops-first, pairs-length, op-form}
+use Rattle.grammar.proofs.Tables.{names-length, ops-first, pairs-length, op-form, plan-form}
 
 -- ---- the parts of a line
 
@@ -96,7 +96,7 @@ module _ (r : Reading) (ps : List (List ℕ)) where
   pub followed-stops : (k : Kind) (v : Value) → stopsAt k v ≡ true → followed k v r ps ≡ stoppedBy 22 v ps
   unfolding stopsAt stoppedBy followed decided
   followed-stops (number rs) v h = absurd (false≢true h)
-  followed-stops (word ws) v h = absurd (false≢true h)
+  followed-stops (keyword ws) v h = absurd (false≢true h)
   followed-stops decision (Number n) h = rw (not-true (eqb n 0) h)
   followed-stops decision Malformed h = refl
   followed-stops decision Outside h = refl
@@ -104,7 +104,7 @@ module _ (r : Reading) (ps : List (List ℕ)) where
   pub followed-goes : (k : Kind) (v : Value) → stopsAt k v ≡ false → followed k v r ps ≡ before v r
   unfolding stopsAt followed decided
   followed-goes (number rs) v h = refl
-  followed-goes (word ws) v h = refl
+  followed-goes (keyword ws) v h = refl
   followed-goes decision (Number n) h = rw (not-false (eqb n 0) h)
   followed-goes decision Malformed h = absurd (false≢true (sym h))
   followed-goes decision Outside h = absurd (false≢true (sym h))
@@ -119,7 +119,7 @@ pairs-none end pair h =
     let z : end - pair ≡ 0 = omega arith in
     ap (λ (n : ℕ). take n (drop pair pairs)) z
 
-pub pairs-step : (end pair : ℕ) → pair < end → end ≤ 71 → pairsTo end pair ≡ pairAt pair ∷ pairsTo end (pair + 1)
+pub pairs-step : (end pair : ℕ) → pair < end → end ≤ pairCount → pairsTo end pair ≡ pairAt pair ∷ pairsTo end (pair + 1)
 unfolding pairAt
 pairs-step end pair h l =
     let n = end - (pair + 1) in
@@ -135,7 +135,7 @@ module _ (end pair at : ℕ) (line : List ℕ) where
   unfolding readForm
   form-done h = ap (λ (fs : List Pair). readForm fs (partsFrom at line)) (pairs-none end pair h)
 
-  module _ (h : pair < end) (l : end ≤ 71) where
+  module _ (h : pair < end) (l : end ≤ pairCount) where
     pub form-short : length line < at → readForm (pairsTo end pair) (partsFrom at line) ≡ refused 20
     unfolding readForm
     form-short m = (λ i. readForm (pairs-step end pair h l i) (parts-end at line m i))
@@ -163,54 +163,63 @@ pub single-form : (k line part : List ℕ) → part ≡ partAt space 0 line
 unfolding readForm followed readPair readValue
 single-form k line part is = ap (readForm (number16 k ∷ [])) (first-part line part is)
 
--- ---- the words of the table
+-- a plan line
+pub plan-line : (i : ℕ) (line part : List ℕ) → part ≡ partAt space 0 line
+    → readForm (planForm LP5523 i) (split space line)
+    ≡ before (held (i to i ∷ []) (readNumber 65535 (valueOf (ascii "engine") part))) (readForm (formOf opCount) (partsFrom (length part + 1) line))
+unfolding readForm followed readPair readValue planForm
+plan-line i line part is =
+    ap (readForm (planForm LP5523 i)) (first-part line part is)
+    ∙ ap (λ (fs : List Pair). before (held (i to i ∷ []) (readNumber 65535 (valueOf (ascii "engine") part))) (readForm fs (partsFrom (length part + 1) line))) plan-form
 
--- the words from one on
-abbrev pub wordsFrom : ℕ → ℕ → List (List ℕ)
-wordsFrom first count = take count (drop first names)
+-- ---- the keywords of the table
 
-module _ (first count : ℕ) (fit : first + count ≤ 64) where
-  pub words-count : length (wordsFrom first count) ≡ count
-  words-count = length-take-le count (drop first names) (omega (arith, length-drop first names, names-length))
+-- the keywords from one on
+abbrev pub keywordsFrom : ℕ → ℕ → List (List ℕ)
+keywordsFrom first count = take count (drop first names)
 
-  words-at : (i : ℕ) → i < count → getD (wordsFrom first count) i [] ≡ getD names (first + i) []
-  words-at i h = getD-take count (drop first names) i [] h ∙ getD-drop first names i []
+module _ (first count : ℕ) (fit : first + count ≤ nameCount) where
+  pub keywords-count : length (keywordsFrom first count) ≡ count
+  keywords-count = length-take-le count (drop first names) (omega (arith, length-drop first names, names-length))
+
+  keywords-at : (i : ℕ) → i < count → getD (keywordsFrom first count) i [] ≡ getD names (first + i) []
+  keywords-at i h = getD-take count (drop first names) i [] h ∙ getD-drop first names i []
 
   module _ (v : List ℕ) (i : ℕ) where
     abbrev left : ℕ → List (List ℕ)
-    left n = drop n (wordsFrom first count)
+    left n = drop n (keywordsFrom first count)
 
     pub place-step : (t : Bool) → i < count → same v (getD names (first + i) []) ≡ t → placeOf (left i) i v ≡ cond t (Number i) (placeOf (left (i + 1)) (i + 1) v)
     unfolding placeOf
     place-step t h e =
-        ap (λ (l : List (List ℕ)). placeOf l i v) (drop-cons (wordsFrom first count) i [] (omega (arith, words-count)))
-        ∙ ap (λ (u : Bool). cond u (Number i) (placeOf (left (suc i)) (i + 1) v)) (ap (same v) (words-at i h) ∙ e)
+        ap (λ (l : List (List ℕ)). placeOf l i v) (drop-cons (keywordsFrom first count) i [] (omega (arith, keywords-count)))
+        ∙ ap (λ (u : Bool). cond u (Number i) (placeOf (left (suc i)) (i + 1) v)) (ap (same v) (keywords-at i h) ∙ e)
         ∙ ap (λ (n : ℕ). cond t (Number i) (placeOf (left n) (i + 1) v)) (sym (add-one i))
 
     pub place-end : count ≤ i → placeOf (left i) i v ≡ Outside
     unfolding placeOf
     place-end h =
-        let l : length (wordsFrom first count) ≤ i = omega (arith, words-count) in
-        ap (λ (l : List (List ℕ)). placeOf l i v) (drop-of-length-le (wordsFrom first count) l)
+        let l : length (keywordsFrom first count) ≤ i = omega (arith, keywords-count) in
+        ap (λ (l : List (List ℕ)). placeOf l i v) (drop-of-length-le (keywordsFrom first count) l)
 
 -- ---- the line of an operation
 
 -- its name is read first
-pub op-line : (line part : List ℕ) (v : Value) → part ≡ partAt space 0 line → v ≡ readWord (wordsFrom 0 31) (valueOf (ascii "op") part)
+pub op-line : (line part : List ℕ) (v : Value) → part ≡ partAt space 0 line → v ≡ readKeyword (keywordsFrom 0 opCount) (valueOf (ascii "op") part)
     → readOp LP5523 (split space line) ≡ named LP5523 v (partsFrom (length part + 1) line)
 unfolding readOp
 op-line line part v is e =
     ap (readOp LP5523) (first-part line part is)
-    ∙ ap (λ (x : Value). named LP5523 x (partsFrom (length part + 1) line)) (ap (λ (ws : List (List ℕ)). readWord ws (valueOf (ascii "op") part)) ops-first ∙ sym e)
+    ∙ ap (λ (x : Value). named LP5523 x (partsFrom (length part + 1) line)) (ap (λ (ws : List (List ℕ)). readKeyword ws (valueOf (ascii "op") part)) ops-first ∙ sym e)
 
-pub op-small : (v : List ℕ) (o : ℕ) → readWord (wordsFrom 0 31) v ≡ Number o → o < 31
-op-small v o e = omega (arith, word-read (wordsFrom 0 31) o v e .1, words-count 0 31 (omega arith))
+pub op-small : (v : List ℕ) (o : ℕ) → readKeyword (keywordsFrom 0 opCount) v ≡ Number o → o < opCount
+op-small v o e = omega (arith, keyword-read (keywordsFrom 0 opCount) o v e .1, keywords-count 0 opCount (omega arith))
 
 -- where it is no operation's, no form goes on
 pub op-stops : (ps : List (List ℕ)) (v : Value) → OneOf (1 ∷ 2 ∷ []) (tagOf variants.the-type v) → named LP5523 v ps ≡ stoppedBy 21 v ps
 unfolding named stoppedBy
 op-stops ps = other-value (λ (v : Value). named LP5523 v ps ≡ stoppedBy 21 v ps) refl refl
 
-pub op-goes : (o : ℕ) (ps : List (List ℕ)) → o < 31 → named LP5523 (Number o) ps ≡ before (Number o) (readForm (formOf o) ps)
+pub op-goes : (o : ℕ) (ps : List (List ℕ)) → o < opCount → named LP5523 (Number o) ps ≡ before (Number o) (readForm (formOf o) ps)
 unfolding named
 op-goes o ps h = ap (λ (fs : List Pair). before (Number o) (readForm fs ps)) (op-form o h)

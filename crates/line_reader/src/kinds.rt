@@ -1,13 +1,13 @@
-// Values, read by their kinds: numbers in their ranges, and words.
-use super::words::read_word;
+// Values, read by their kinds: numbers in their ranges, and keywords.
+use super::keywords::read_keyword;
 use grammar::ALSO_HIGH;
 use grammar::ALSO_LOW;
 use grammar::HIGH;
+use grammar::KEYWORD_COUNT;
+use grammar::KEYWORD_FIRST;
 use grammar::LOW;
 use grammar::NUMBERS;
 use grammar::Value;
-use grammar::WORD_COUNT;
-use grammar::WORD_FIRST;
 use text::Decimal;
 ghost use mathlib.Core.List.{[]};
 ghost use mathlib.Core.Path.{_≡_};
@@ -15,10 +15,10 @@ ghost use Prim.Native.Nat.{_<_};
 ghost use Rattle.text.specs.Number.{readNumber};
 ghost use Rattle.word.specs.Field.{inside, upto};
 ghost use Rattle.grammar.specs.Form.{held, readValue};
-ghost use Rattle.grammar.specs.Tables.{kindAt, rangesAt};
+ghost use Rattle.grammar.specs.Tables.{numberKinds, kindCount, kindAt, rangesAt};
 
 fn in_ranges(n: u16, kind: usize) -> bool
-    requires { ⌜ kind < 12 ⌝ }
+    requires { ⌜ kind < numberKinds ⌝ }
     ensures { λ r. ⌜ r ≡ inside (rangesAt kind) n ⌝ }
 {
     if LOW[kind] <= n {
@@ -54,7 +54,7 @@ fn refused(d: Decimal) -> Value
 }
 
 fn number_of(v: &[u8], kind: usize) -> Value
-    requires { ⌜ kind < 12 ⌝ }
+    requires { ⌜ kind < numberKinds ⌝ }
     ensures { λ r. ⌜ r ≡ held (rangesAt kind) (readNumber 65535 (now (v .entry))) ⌝ }
 {
     let value = read_number(v);
@@ -68,12 +68,12 @@ fn number_of(v: &[u8], kind: usize) -> Value
 }
 
 pub(super) fn read_value(v: &[u8], kind: usize) -> Value
-    requires { ⌜ kind < 16 ⌝ }
+    requires { ⌜ kind < kindCount ⌝ }
     ensures { λ r. ⌜ r ≡ readValue (kindAt kind) (now (v .entry)) ⌝ }
 {
     if kind < NUMBERS {
         return number_of(v, kind);
     }
     let k = kind - NUMBERS;
-    read_word(v, WORD_FIRST[k] as usize, WORD_COUNT[k] as usize)
+    read_keyword(v, KEYWORD_FIRST[k] as usize, KEYWORD_COUNT[k] as usize)
 }

@@ -1,10 +1,10 @@
 // A line of a sheet, read by the grammar's tables. Every text gets an answer.
+mod keywords;
 mod kinds;
 mod names;
 mod pairs;
 mod reading;
 mod sequence;
 mod shapes;
-mod words;
 
 pub use reading::read_line;

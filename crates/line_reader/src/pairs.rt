@@ -10,16 +10,15 @@ use grammar::LineRead;
 use grammar::PAIR_KEY;
 use grammar::PAIR_KIND;
 use grammar::Value;
+use text::SPACE;
 ghost use mathlib.Core.Path.{_≡_};
 ghost use Prim.Native.Nat.{_-_, _≤_, _<_};
 ghost use lib.ListN.{take, drop};
 ghost use Rattle.grammar.specs.Form.{readPair, readForm};
-ghost use Rattle.grammar.specs.Tables.{pairs, pairAt, formOf, partsFrom, lineReadOf, stopsAt};
-
-const SPACE: u8 = 32;
+ghost use Rattle.grammar.specs.Tables.{pairCount, formCount, pairs, pairAt, formOf, partsFrom, lineReadOf, stopsAt};
 
 fn read_pair(part: &[u8], pair: usize) -> Value
-    requires { ⌜ pair < 71 ⌝ }
+    requires { ⌜ pair < pairCount ⌝ }
     ensures { λ r. ⌜ r ≡ readPair (pairAt pair) (now (part .entry)) ⌝ }
 {
     let key = PAIR_KEY[pair] as usize;
@@ -29,7 +28,7 @@ fn read_pair(part: &[u8], pair: usize) -> Value
 
 // Whether the pairs after this one are left out: after a yes or no that isn't yes.
 pub(super) fn stops(pair: usize, value: Value) -> bool
-    requires { ⌜ pair < 71 ⌝ }
+    requires { ⌜ pair < pairCount ⌝ }
     ensures { λ r. ⌜ r ≡ stopsAt (pairAt pair .kind) value ⌝ }
 {
     if PAIR_KIND[pair] != DECISION {
@@ -43,7 +42,7 @@ pub(super) fn stops(pair: usize, value: Value) -> bool
 
 // The parts of the line that begin at `at`, read by the pairs up to `end`.
 fn read_pairs(line: &[u8], at: usize, pair: usize, end: usize) -> LineRead
-    requires { ⌜ end ≤ 71 ⌝ }
+    requires { ⌜ end ≤ pairCount ⌝ }
     ensures { λ r. ⌜ r ≡ lineReadOf (readForm (take (end - pair) (drop pair pairs)) (partsFrom at (now (line .entry)))) ⌝ }
 {
     if pair >= end {
@@ -64,7 +63,7 @@ fn read_pairs(line: &[u8], at: usize, pair: usize, end: usize) -> LineRead
 
 // The same by the pairs of a whole form.
 pub(super) fn read_form(line: &[u8], at: usize, form: usize) -> LineRead
-    requires { ⌜ form < 34 ⌝ }
+    requires { ⌜ form < formCount ⌝ }
     ensures { λ r. ⌜ r ≡ lineReadOf (readForm (formOf form) (partsFrom at (now (line .entry)))) ⌝ }
 {
     let places = FORM_AT;

@@ -3,11 +3,10 @@ use super::sequence::before;
 use grammar::LineRead;
 use grammar::Value;
 use grammar::Values;
+use text::SPACE;
 ghost use mathlib.Core.Path.{_≡_};
 ghost use Rattle.grammar.specs.Form.{allPairs, unknown, atEnd};
 ghost use Rattle.grammar.specs.Tables.{partsFrom, lineReadOf, stoppedBy};
-
-const SPACE: u8 = 32;
 
 // Whether every part from `from` on is a pair.
 fn all_pairs(line: &[u8], from: usize) -> bool
@@ -42,7 +41,7 @@ pub(super) fn at_end(line: &[u8], at: usize) -> LineRead
     })
 }
 
-// After an unknown word only the shape of the pairs is judged.
+// After an unknown keyword only the shape of the pairs is judged.
 fn unknown(line: &[u8], at: usize, number: u16) -> LineRead
     ensures { λ r. ⌜ r ≡ lineReadOf (unknown number (partsFrom at (now (line .entry)))) ⌝ }
 {
@@ -52,7 +51,7 @@ fn unknown(line: &[u8], at: usize, number: u16) -> LineRead
     LineRead::Refused(20)
 }
 
-// After a word that lets no form go on: it is unknown, or no word, or the last of its line.
+// After a value with which a form ends: an unknown keyword, no keyword, or a no.
 pub(super) fn stopped(line: &[u8], at: usize, value: Value, number: u16) -> LineRead
     ensures { λ r. ⌜ r ≡ lineReadOf (stoppedBy number value (partsFrom at (now (line .entry)))) ⌝ }
 {

@@ -16,63 +16,58 @@ use Rattle.text.specs.Number.{decimalOf}
 use Rattle.text.specs.Put.{lastPlace, Put}
 use Rattle.text.proofs.Puts.{put-append, put-length, SoFar}
 use Rattle.word.specs.Profile.{LP5523}
-use Rattle.grammar.specs.declared.Value.{Value}
 use Rattle.grammar.specs.declared.Value.the-variants.{Number}
-use Rattle.grammar.specs.Form.{Kind, number, word, decision, answers, Pair, writeValue, writePair, continued, writeForm}
-use Rattle.grammar.specs.Grammar.{OpLine, opLines, opNames, opForm, directions, variables, number16, wordForm, writeOp}
-use Rattle.grammar.specs.Tables.{keys, names, kindAt, pairs, pairAt, formOf, stopsAt}
-use Rattle.grammar.proofs.Ranges.{kind-number, stops-not}
-use Rattle.grammar.proofs.Tables.{pairKind, formAt, wordTable, formTable, wordCount, wordFirst, kind-is, answers-are, pairs-length, op-form, form-is, form-ends, plan-starts, plan-kinds}
+use Rattle.grammar.specs.Form.{Kind, number, keyword, decision, answers, Pair, writeValue, writePair, continued, writeForm}
+use Rattle.grammar.specs.Grammar.{OpLine, opLines, opNames, opForm, planPairs, directions, variables, number16, wordForm, writeOp}
+use Rattle.grammar.specs.Tables.{opCount, numberKinds, kindCount, decisionKind, pairCount, keys, names, kindAt, pairs, pairAt, stopsAt}
+use Rattle.grammar.proofs.Ranges.{kind-number}
+use Rattle.grammar.proofs.Tables.{keywordTable, formTable, keywordCount, keywordFirst, kind-is, answers-are, pairs-length, op-form, plan-form, form-is}
 
 -- ---- the kinds of values
 
-word-kind : (k : ℕ) → 12 ≤ k → k < 15 → kindAt k ≡ word (wordTable (k - 12))
-word-kind k h l = kind-is k (omega arith) ∙ rw (le-ltb k 12 h, lt-ltb k 15 l)
+keyword-kind : (k : ℕ) → numberKinds ≤ k → k < decisionKind → kindAt k ≡ keyword (keywordTable (k - numberKinds))
+keyword-kind k h l = kind-is k (omega arith) ∙ rw (le-ltb k numberKinds h, lt-ltb k decisionKind l)
 
-pub number-text : (k n : ℕ) → k < 12 → writeValue (kindAt k) n ≡ decimalOf n
+pub number-text : (k n : ℕ) → k < numberKinds → writeValue (kindAt k) n ≡ decimalOf n
 unfolding writeValue
 number-text k n h = ap (λ (q : Kind). writeValue q n) (kind-number k h)
 
--- a yes or no is one of two words, like any other
-word-text : (k n : ℕ) → 12 ≤ k → k < 16 → writeValue (kindAt k) n ≡ getD (wordTable (k - 12)) n []
+-- a yes or no is one of two keywords, like any other
+keyword-text : (k n : ℕ) → numberKinds ≤ k → k < kindCount → writeValue (kindAt k) n ≡ getD (keywordTable (k - numberKinds)) n []
 unfolding writeValue
-word-text k n h l =
-    by-test (ltb k 15)
-    (λ e. ap (λ (q : Kind). writeValue q n) (word-kind k h (ltb-true k 15 e)))
+keyword-text k n h l =
+    by-test (ltb k decisionKind)
+    (λ e. ap (λ (q : Kind). writeValue q n) (keyword-kind k h (ltb-true k decisionKind e)))
     (λ e.
-    let g = ltb-false k 15 e in
-    let f : 15 ≡ k = omega arith in
-    subst (λ (j : ℕ). writeValue (kindAt j) n ≡ getD (wordTable (j - 12)) n []) f
-    (ap (λ (q : Kind). writeValue q n) (kind-is 15 (omega arith)) ∙ ap (λ (ws : List (List ℕ)). getD ws n []) answers-are))
+    let g = ltb-false k decisionKind e in
+    let f : decisionKind ≡ k = omega arith in
+    subst (λ (j : ℕ). writeValue (kindAt j) n ≡ getD (keywordTable (j - numberKinds)) n []) f
+    (ap (λ (q : Kind). writeValue q n) (kind-is decisionKind (omega arith)) ∙ ap (λ (ws : List (List ℕ)). getD ws n []) answers-are))
 
--- the word n of a kind is the name n places after its first, where it has so many
-pub word-name : (k n : ℕ) → 12 ≤ k → k < 16 → n < getD wordCount (k - 12) 0 → writeValue (kindAt k) n ≡ getD names (getD wordFirst (k - 12) 0 + n) []
-word-name k n h l m =
-    word-text k n h l
-    ∙ getD-take (getD wordCount (k - 12) 0) (drop (getD wordFirst (k - 12) 0) names) n [] m
-    ∙ getD-drop (getD wordFirst (k - 12) 0) names n []
+-- the keyword n of a kind is the name n places after its first, where it has so many
+pub keyword-name : (k n : ℕ) → numberKinds ≤ k → k < kindCount → n < getD keywordCount (k - numberKinds) 0 → writeValue (kindAt k) n ≡ getD names (getD keywordFirst (k - numberKinds) 0 + n) []
+keyword-name k n h l m =
+    keyword-text k n h l
+    ∙ getD-take (getD keywordCount (k - numberKinds) 0) (drop (getD keywordFirst (k - numberKinds) 0) names) n [] m
+    ∙ getD-drop (getD keywordFirst (k - numberKinds) 0) names n []
 
-pub word-none : (k n : ℕ) → 12 ≤ k → k < 16 → getD wordCount (k - 12) 0 ≤ n → writeValue (kindAt k) n ≡ []
-word-none k n h l m =
-    word-text k n h l ∙ List·getD-eq-default (wordTable (k - 12)) [] (simp length-take (omega arith))
+pub keyword-none : (k n : ℕ) → numberKinds ≤ k → k < kindCount → getD keywordCount (k - numberKinds) 0 ≤ n → writeValue (kindAt k) n ≡ []
+keyword-none k n h l m =
+    keyword-text k n h l ∙ List·getD-eq-default (keywordTable (k - numberKinds)) [] (simp length-take (omega arith))
 
 -- ---- where a line ends
-
--- nothing but a yes or no ends a line before its form does
-pair-passes : (j : ℕ) (v : Value) → j < 71 → getD pairKind j 0 < 15 → stopsAt (pairAt j .kind) v ≡ false
-pair-passes j v h l = stops-not j v h (λ e. omega arith)
 
 -- what is written after a value, by whether it ends the line
 pub keeps-on : (k : Kind) (n : ℕ) (ps : List (List ℕ)) → stopsAt k (Number n) ≡ false → continued k n ps ≡ ps
 unfolding stopsAt continued
 keeps-on (number rs) n ps e = refl
-keeps-on (word ws) n ps e = refl
+keeps-on (keyword ws) n ps e = refl
 keeps-on decision n ps e = rw (not-false (eqb n 0) e)
 
 pub goes-no-further : (k : Kind) (n : ℕ) (ps : List (List ℕ)) → stopsAt k (Number n) ≡ true → continued k n ps ≡ []
 unfolding stopsAt continued
 goes-no-further (number rs) n ps e = absurd (subst T (sym e) tt)
-goes-no-further (word ws) n ps e = absurd (subst T (sym e) tt)
+goes-no-further (keyword ws) n ps e = absurd (subst T (sym e) tt)
 goes-no-further decision n ps e = rw (not-true (eqb n 0) e)
 
 -- ---- the pairs of a form
@@ -83,7 +78,7 @@ leftOf end j i ns = writeForm (take (end - j) (drop j pairs)) (drop i ns)
 
 module _ (end j i : ℕ) (ns : List ℕ) where
   -- the first of them, whose value is n, and what continues it
-  pub left-step : (n : ℕ) → n ≡ getD ns i 0 → j < end → end ≤ 71 → i < length ns →
+  pub left-step : (n : ℕ) → n ≡ getD ns i 0 → j < end → end ≤ pairCount → i < length ns →
       leftOf end j i ns ≡ writePair (pairAt j) n ∷ continued (pairAt j .kind) n (leftOf end (j + 1) (i + 1) ns)
   unfolding writeForm pairAt
   left-step n v h l m =
@@ -99,37 +94,27 @@ module _ (end j i : ℕ) (ns : List ℕ) where
 -- ---- whole lines
 
 -- the names of operations are the first of all names
-op-name : (o : ℕ) → o < 31 → getD (opNames LP5523) o [] ≡ getD names o []
+op-name : (o : ℕ) → o < opCount → getD (opNames LP5523) o [] ≡ getD names o []
 unfolding names opNames
 op-name o h = sym (List·getD-append (opNames LP5523) (directions ++ (variables ++ (answers ++ keys))) [] o h)
 
-pub op-line : (o : ℕ) (ns : List ℕ) → o < 31 →
+pub op-line : (o : ℕ) (ns : List ℕ) → o < opCount →
     join space (writeOp LP5523 (o ∷ ns)) ≡ (ascii "op=" ++ getD names o []) ++ joined space (writeForm (formTable o) ns)
 unfolding writeOp join
 op-line o ns h = rw (op-name o h, op-form o h, form-is o (omega arith))
 
 -- an operation that isn't in the table has neither name nor pairs
-pub no-line : (o : ℕ) (ns : List ℕ) → 31 ≤ o → join space (writeOp LP5523 (o ∷ ns)) ≡ ascii "op="
+pub no-line : (o : ℕ) (ns : List ℕ) → opCount ≤ o → join space (writeOp LP5523 (o ∷ ns)) ≡ ascii "op="
 unfolding writeOp writeForm join joined opNames opForm
 no-line o ns h =
     let name : getD (opNames LP5523) o [] ≡ [] = List·getD-eq-default (opNames LP5523) [] h in
     let form : opForm LP5523 o ≡ [] = List·getD-eq-default (map (λ (l : OpLine). l .form) (opLines LP5523)) [] h in
     rw (name, form)
 
--- the first pair of a plan line stands by itself: no space is before it, and the others follow whatever its value
-pub plan-line : (k n : ℕ) (ns : List ℕ) → 31 ≤ k → k < 34 →
-    let start = getD formAt k 0 in
-    join space (writeForm (formOf k) (n ∷ ns)) ≡ writePair (pairAt start) n ++ joined space (leftOf (getD formAt (k + 1) 0) (start + 1) 1 (n ∷ ns))
+-- a plan line: the engine's number, then the other pairs
+pub plan-line : (p : List ℕ) (ns : List ℕ) → join space (p ∷ writeForm (planPairs LP5523) ns) ≡ p ++ joined space (writeForm (formTable opCount) ns)
 unfolding join
-plan-line k n ns h l =
-    let start = getD formAt k 0 in
-    let end = getD formAt (k + 1) 0 in
-    let s : start < end = plan-starts k h l in
-    let e : end ≤ 71 = form-ends (k + 1) (omega arith) in
-    let p : stopsAt (pairAt start .kind) (Number n) ≡ false = pair-passes start (Number n) (omega arith) (plan-kinds k h l) in
-    ap (λ (fs : List Pair). join space (writeForm fs (n ∷ ns))) (form-is k (omega arith))
-    ∙ ap (join space) (left-step end start 0 (n ∷ ns) n refl s e (omega arith))
-    ∙ ap (λ (ps : List (List ℕ)). writePair (pairAt start) n ++ joined space ps) (keeps-on (pairAt start .kind) n (leftOf end (start + 1) 1 (n ∷ ns)) p)
+plan-line p ns = ap (λ (fs : List Pair). p ++ joined space (writeForm fs ns)) (plan-form ∙ form-is opCount (omega arith))
 
 -- a line of one pair is that pair
 pub single-line : (k : String) (n : ℕ) (ns : List ℕ) → join space (writeForm (wordForm k) (n ∷ ns)) ≡ writePair (number16 (ascii k)) n

@@ -1,15 +1,15 @@
-// Values, written by their kinds: numbers and words.
+// Values, written by their kinds: numbers and keywords.
 use super::names::put_name;
+use grammar::KEYWORD_COUNT;
+use grammar::KEYWORD_FIRST;
 use grammar::NUMBERS;
-use grammar::WORD_COUNT;
-use grammar::WORD_FIRST;
 ghost use Prim.Native.Nat.{_<_};
 ghost use Rattle.text.specs.Put.{Put};
 ghost use Rattle.grammar.specs.Form.{writeValue};
-ghost use Rattle.grammar.specs.Tables.{kindAt};
+ghost use Rattle.grammar.specs.Tables.{kindCount, kindAt};
 
 pub(super) fn put_value(out: &mut [u8], at: usize, kind: usize, n: u16) -> usize
-    requires { ⌜ kind < 16 ⌝ }
+    requires { ⌜ kind < kindCount ⌝ }
     ensures { λ r. ⌜ Put (now (out .entry)) (now (out .exit)) (writeValue (kindAt kind) n) at r ⌝ }
 {
     if kind < NUMBERS {
@@ -17,8 +17,8 @@ pub(super) fn put_value(out: &mut [u8], at: usize, kind: usize, n: u16) -> usize
     }
     let k = kind - NUMBERS;
     let place = n as usize;
-    if place < WORD_COUNT[k] as usize {
-        return put_name(out, at, WORD_FIRST[k] as usize + place);
+    if place < KEYWORD_COUNT[k] as usize {
+        return put_name(out, at, KEYWORD_FIRST[k] as usize + place);
     }
     at
 }

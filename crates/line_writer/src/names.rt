@@ -5,10 +5,10 @@ ghost use mathlib.Core.List.{[]};
 ghost use Prim.Native.Nat.{_<_};
 ghost use lib.ListN.{getD};
 ghost use Rattle.text.specs.Put.{Put};
-ghost use Rattle.grammar.specs.Tables.{names};
+ghost use Rattle.grammar.specs.Tables.{nameCount, names};
 
 pub(super) fn put_name(out: &mut [u8], at: usize, k: usize) -> usize
-    requires { ⌜ k < 64 ⌝ }
+    requires { ⌜ k < nameCount ⌝ }
     ensures { λ r. ⌜ Put (now (out .entry)) (now (out .exit)) (getD names k []) at r ⌝ }
 {
     let places = NAME_AT;

@@ -1,6 +1,6 @@
 // An op line, read.
 use crate::words::word_of;
-use grammar::Form;
+use grammar::LineKind;
 use grammar::LineRead;
 use grammar::Values;
 use op_lines::WordLine;
@@ -43,7 +43,7 @@ fn code_of(v: Values) -> WordLine
 pub fn assemble_line(line: &[u8]) -> WordLine
     ensures { λ r. ⌜ answerOf r ≡ assembleLineOf LP5523 (now (line .entry)) ⌝ }
 {
-    match line_reader::read_line(line, Form::Op) {
+    match line_reader::read_line(line, LineKind::Op) {
         LineRead::Read(v) => code_of(v),
         LineRead::Refused(k) => refused(k),
     }

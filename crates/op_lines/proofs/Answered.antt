@@ -1,6 +1,6 @@
 -- What reading an op line answers, from what the grammar's reader and the encoder answer.
 use Prim.Native.Nat.{ℕ, _<_}
-use mathlib.Core.Bool.{true, and-eq-true-iff, false≢true}
+use mathlib.Core.Bool.{and-eq-true-iff, false≢true}
 use mathlib.Core.List.{List, [], _∷_}
 use mathlib.Core.Path.{_≡_, refl, sym, ap, _∙_}
 use native.Mathlib.Omega.{arith}
@@ -17,7 +17,7 @@ use Rattle.word.specs.declared.Word.{Word}
 use Rattle.word.specs.declared.Word.the-variants.{Undefined}
 use Rattle.word.proofs.Coded.{the-type}
 use Rattle.word.proofs.Theorems.{refuses-13}
-use Rattle.grammar.specs.declared.Form.the-variants.{Op}
+use Rattle.grammar.specs.declared.LineKind.the-variants.{Op}
 use Rattle.grammar.specs.declared.LineRead.the-variants.{Read, Refused}
 use Rattle.grammar.specs.declared.Values.{Values}
 use Rattle.grammar.specs.Form.{Reading, values, refused}

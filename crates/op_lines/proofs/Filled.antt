@@ -9,7 +9,7 @@ use lib.ListN.{length, getD, List·getD-map}
 use borrow.Author.Tests.{ltb-true, eqb-true}
 use Rattle.word.specs.Profile.{Profile, LP5523}
 use Rattle.word.specs.declared.Word.the-variants.{Undefined}
-use Rattle.grammar.specs.Form.{Kind, number, word, decision, Pair}
+use Rattle.grammar.specs.Form.{Kind, number, decision, Pair, keyword}
 use Rattle.grammar.specs.Grammar.{directionOf, opForm}
 use Rattle.grammar.specs.declared.Values.{Values}
 use Rattle.grammar.specs.Tables.{listOf}
@@ -23,12 +23,12 @@ use Rattle.op_lines.specs.Values.{directionPlace, opValues}
 -- Where a pair has one of two words, they are the directions: a word keeps its direction, and not the number.
 abbrev taken : Kind → ℕ → ℕ
 taken (number rs) n = n
-taken (word ws) n = cond (eqb (length ws) 2) (directionPlace (directionOf n)) n
+taken (keyword ws) n = cond (eqb (length ws) 2) (directionPlace (directionOf n)) n
 taken decision n = n
 
 abbrev after : Kind → ℕ → List ℕ → List ℕ
 after (number rs) n ns = ns
-after (word ws) n ns = ns
+after (keyword ws) n ns = ns
 after decision n ns = cond (eqb n 0) ns []
 
 unfoldable valuesFrom : List Pair → (ℕ → ℕ) → List ℕ
@@ -42,7 +42,7 @@ direction-kept (suc (suc n)) h = absurd (omega arith)
 
 taken-fits : (k : Kind) (n : ℕ) → fitsKind k n ≡ true → taken k n ≡ n
 taken-fits (number rs) n h = refl
-taken-fits (word ws) n h = go (eqb (length ws) 2) refl
+taken-fits (keyword ws) n h = go (eqb (length ws) 2) refl
   where
     go : (b : Bool) → eqb (length ws) 2 ≡ b → cond b (directionPlace (directionOf n)) n ≡ n
     go true e = let l = ltb-true n (length ws) h in let m = eqb-true (length ws) 2 e in direction-kept n (omega arith)
@@ -51,7 +51,7 @@ taken-fits decision n h = refl
 
 after-fits : (k : Kind) (n : ℕ) (b : Bool) {ms : List ℕ} (ns : List ℕ) → (b ≡ true → ms ≡ ns) → fitsAfter k n b ns ≡ true → after k n ms ≡ ns
 after-fits (number rs) n b ns e h = e h
-after-fits (word ws) n b ns e h = e h
+after-fits (keyword ws) n b ns e h = e h
 after-fits decision n b {ms} ns e h = go (eqb n 0) ns e h
   where
     go : (t : Bool) (ns : List ℕ) → (b ≡ true → ms ≡ ns) → cond t b (isEmpty ns) ≡ true → cond t ms [] ≡ ns

@@ -8,7 +8,7 @@ use borrow.Author.Tests.{le-leb}
 use Rattle.word.specs.Profile.{LP5523}
 use Rattle.word.specs.Field.{Field, flag, time, byte, rise, variable, target, skip, loops, step, address, output, triggers, rangesOf, inside}
 use Rattle.word.proofs.Fields.{between, inside-upto}
-use Rattle.grammar.specs.Form.{number, word}
+use Rattle.grammar.specs.Form.{number, keyword}
 use Rattle.grammar.specs.Grammar.{variables, targets}
 use Rattle.grammar.specs.Theorems.{fitsKind}
 
@@ -46,8 +46,8 @@ and-second false false h = refl
 pub number-fits : (f : Field) (n : ℕ) → fitsKind (number (rangesOf LP5523 f)) n ≡ inside (rangesOf LP5523 f) n
 number-fits f n = and-second (leb n 65535) (inside (rangesOf LP5523 f) n) (λ e. le-leb n 65535 (in-16-bits f n e))
 
-pub variable-fits : (n : ℕ) → fitsKind (word variables) n ≡ inside (rangesOf LP5523 variable) n
+pub variable-fits : (n : ℕ) → fitsKind (keyword variables) n ≡ inside (rangesOf LP5523 variable) n
 variable-fits n = leb·suc-suc n 3 ∙ sym (inside-upto 3 n)
 
-pub target-fits : (n : ℕ) → fitsKind (word targets) n ≡ inside (rangesOf LP5523 target) n
+pub target-fits : (n : ℕ) → fitsKind (keyword targets) n ≡ inside (rangesOf LP5523 target) n
 target-fits n = leb·suc-suc n 2 ∙ sym (inside-upto 2 n)

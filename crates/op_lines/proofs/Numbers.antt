@@ -7,7 +7,7 @@ use Rattle.word.specs.Profile.{Profile}
 use Rattle.word.specs.Table.{encodeOf}
 use Rattle.word.specs.declared.Word.{Word}
 use Rattle.word.proofs.Theorems.{refuses-up-by-zero}
-use Rattle.grammar.specs.declared.Form.the-variants.{Op}
+use Rattle.grammar.specs.declared.LineKind.the-variants.{Op}
 use Rattle.grammar.specs.Form.{Reading, values, refused}
 use Rattle.grammar.specs.Grammar.{readLine}
 use Rattle.grammar.specs.Theorems.{fitsOp, fitsLine}

@@ -8,7 +8,7 @@ use Rattle.text.specs.Bytes.{space, split}
 use Rattle.word.specs.Profile.{Profile}
 use Rattle.word.specs.Answer.{Answer, success}
 use Rattle.word.specs.Table.{encodeOf}
-use Rattle.grammar.specs.declared.Form.the-variants.{Op}
+use Rattle.grammar.specs.declared.LineKind.the-variants.{Op}
 use Rattle.grammar.specs.Form.{Reading, values, refused}
 use Rattle.grammar.specs.Grammar.{readLine}
 use Rattle.grammar.specs.Conditions as grammar

@@ -4,7 +4,7 @@ use Rattle.word.specs.Answer.{Answer}
 use Rattle.word.specs.Table.{encodeOf}
 use Rattle.word.specs.Decode.{decodeOf}
 use Rattle.word.proofs.Theorems.{encoded-decodes, decoded-encodes, undefined-exactly}
-use Rattle.grammar.specs.declared.Form.the-variants.{Op}
+use Rattle.grammar.specs.declared.LineKind.the-variants.{Op}
 use Rattle.grammar.specs.Grammar.{writeLine}
 use Rattle.grammar.specs.Theorems.{fitsLine}
 use Rattle.grammar.proofs.Exactly.{refuses-exactly as exactly}
@@ -32,7 +32,7 @@ code-again P w u =
 pub line-again : LineAgain
 unfolding opLineOf
 line-again P line w e =
-    let ns = code-values P line (exactly P Op line) w e in
+    let ns = code-values P line (exactly P Op line tt) w e in
     let d = encoded-decodes P (wordOf P (ns .all)) w (ns .have) in
     ap (λ i. writeLine P Op (opValues P i)) d
     ∙ ap (writeLine P Op) (read-filled P line (ns .all) (ns .are))
@@ -40,8 +40,8 @@ line-again P line w e =
 
 pub reads-defined : ReadsDefined
 reads-defined P line w e u =
-    let ns = code-values P line (exactly P Op line) w e in
+    let ns = code-values P line (exactly P Op line tt) w e in
     undefined-exactly P w .0 u (wordOf P (ns .all)) (ns .have)
 
 pub refuses-exactly : RefusesExactly
-refuses-exactly P line = exact P line (exactly P Op line)
+refuses-exactly P line = exact P line (exactly P Op line tt)

@@ -8,7 +8,7 @@ use Rattle.word.specs.Profile.{Profile}
 use Rattle.word.specs.Answer.{Answer, success, refusal}
 use Rattle.word.specs.Table.{encodeOf}
 use Rattle.word.specs.Decode.{decodeOf}
-use Rattle.grammar.specs.declared.Form.the-variants.{Op}
+use Rattle.grammar.specs.declared.LineKind.the-variants.{Op}
 use Rattle.grammar.specs.Form.{Reading, values, refused}
 use Rattle.grammar.specs.Grammar.{readLine, writeLine}
 use Rattle.op_lines.specs.declared.WordLine.{WordLine}

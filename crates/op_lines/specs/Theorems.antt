@@ -11,7 +11,7 @@ use Rattle.word.specs.Decode.{decodeOf}
 use Rattle.word.specs.declared.Direction.the-variants.{Up}
 use Rattle.word.specs.declared.Word.{Word}
 use Rattle.word.specs.declared.Word.the-variants.{Ramp, Undefined}
-use Rattle.grammar.specs.declared.Form.the-variants.{Op}
+use Rattle.grammar.specs.declared.LineKind.the-variants.{Op}
 use Rattle.grammar.specs.Form.{values}
 use Rattle.grammar.specs.Grammar.{readLine}
 use Rattle.grammar.specs.Conditions.{LineWellFormed, LineUnknown, LineOutside}

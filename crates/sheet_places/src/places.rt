@@ -1,5 +1,5 @@
 // What stands at an address by a plan: code, a table row, or neither; whose it is, and in which line.
-use grammar::Form;
+use grammar::LineKind;
 use plan::EnginePlan;
 use plan::Plan;
 use word::Address;
@@ -7,7 +7,7 @@ ghost use mathlib.Core.Bool.{false, cond, _||_};
 ghost use mathlib.Core.Path.{_≡_};
 ghost use Rattle.word.specs.Profile.{LP5523};
 ghost use Rattle.plan.specs.Tests.{inRange, inCode};
-ghost use Rattle.asm.specs.Places.{inTable, formAt, ownerAt, lineOf};
+ghost use Rattle.asm.specs.Places.{inTable, lineKindAt, ownerAt, lineOf};
 
 fn in_range(first: Address, last: Address, a: u16) -> bool
     ensures { λ r. ⌜ r ≡ inRange first last a ⌝ }
@@ -61,19 +61,19 @@ fn any(a: bool, b: bool, c: bool) -> bool
 }
 
 // An address in both code and table is code.
-pub fn form_at(plan: Plan, a: u16) -> Form
-    ensures { λ r. ⌜ r ≡ formAt LP5523 plan a ⌝ }
+pub fn line_kind_at(plan: Plan, a: u16) -> LineKind
+    ensures { λ r. ⌜ r ≡ lineKindAt LP5523 plan a ⌝ }
 {
     let q1 = plan.engine1;
     let q2 = plan.engine2;
     let q3 = plan.engine3;
     if any(in_code(q1, a), in_code(q2, a), in_code(q3, a)) {
-        return Form::Op;
+        return LineKind::Op;
     }
     if any(in_table(q1, a), in_table(q2, a), in_table(q3, a)) {
-        return Form::Row;
+        return LineKind::Row;
     }
-    Form::Spare
+    LineKind::Spare
 }
 
 // The lowest engine that has it, if any has.

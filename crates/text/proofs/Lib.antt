@@ -5,4 +5,3 @@ pub mod Numbers
 pub mod Numerals
 pub mod Puts
 pub mod Theorems
-pub mod Joins

@@ -9,11 +9,10 @@ use borrow.Author.Tests.{ne-eqb, le-leb, lt-ltb, le-ltb, ltb-true, ltb-false, le
 use lib.Dec.{eqb, leb, ltb}
 use lib.ListN.{length, getD}
 use Rattle.laws.proofs.Tests.{by-test}
-use Rattle.text.specs.Bytes.{lacks, isWord}
+use Rattle.text.specs.Bytes.{lacks}
 use Rattle.text.specs.Number.{isDigit, allDigits, numberFrom, numberOf, isNumber, readNumber, digits, decimalOf}
 use Rattle.text.specs.declared.Decimal.the-variants.{Number, Malformed, Outside}
 use Rattle.text.proofs.Numbers.{number-digits}
-use Rattle.text.proofs.Values.{word-made}
 
 -- ---- the digits of a number, one by one
 
@@ -197,7 +196,3 @@ digits-lack d (x ∷ s) h a =
 
 pub decimal-lacks : (d n : ℕ) → isDigit d ≡ false → lacks d (decimalOf n) ≡ true
 decimal-lacks d n h = digits-lack d (decimalOf n) h (decimal-digits n)
-
-pub decimal-word : (n : ℕ) → isWord (decimalOf n) ≡ true
-unfolding isDigit
-decimal-word n = word-made (decimalOf n) (λ e. decimal-filled n (ap length e)) (decimal-lacks 61 n refl)

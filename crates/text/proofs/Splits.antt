@@ -7,7 +7,7 @@ use native.Mathlib.Omega.{arith}
 use native.Mathlib.Numerals.{add-one}
 use borrow.Author.Tests.{eq-eqb, ne-eqb, eqb-true, eqb-false, not-true}
 use lib.Dec.{eqb}
-use lib.ListN.{length, take, drop, length-drop, take-append-drop, drop-of-length-le}
+use lib.ListN.{length, take, drop, length-drop, drop-of-length-le}
 use lib.Seq.{drop-cons, drop-drop, take-all, length-take-le, take-append-seam, drop-append-seam}
 use Rattle.text.specs.Bytes.{lacks, indexOf, grow, split, after, joined, join, partAt}
 use Rattle.text.specs.Theorems.{allLack}
@@ -42,10 +42,6 @@ module _ (d : ℕ) (s : List ℕ) where
   unfolding after
   after-end at h = rw (drop-of-length-le s h)
 
-  -- where there is a d, the first part ends at it, and the others are those of the rest
-  pub split-some : indexOf d s < length s → split d s ≡ take (indexOf d s) s ∷ split d (drop (indexOf d s + 1) s)
-  split-some h = split-step d s ∙ ap (λ (l : List (List ℕ)). take (indexOf d s) s ∷ l) (after-split (indexOf d s) h)
-
   -- where there is none, the whole is the only part
   pub split-none : length s ≤ indexOf d s → split d s ≡ s ∷ []
   split-none h = split-step d s ∙ rw (take-all (indexOf d s) s h, after-end (indexOf d s) h)
@@ -76,23 +72,12 @@ module _ (d at : ℕ) (s : List ℕ) where
   pub split-at-none : length s ≤ at + length (partAt d at s) → split d (drop at s) ≡ partAt d at s ∷ []
   split-at-none h = split-at ∙ ap (λ (l : List (List ℕ)). partAt d at s ∷ l) (after-end d s (at + length (partAt d at s)) h)
 
--- from a separator at a place, the next part and those after it
-pub after-step : (d at : ℕ) (s : List ℕ) → at < length s
-    → after d (drop at s) ≡ partAt d (at + 1) s ∷ after d (drop (at + 1 + length (partAt d (at + 1) s)) s)
-after-step d at s h = after-split d s at h ∙ split-at d (at + 1) s
-
 -- ---- what lacks a byte
 
 pub lacks-append : (d : ℕ) (s t : List ℕ) → lacks d (s ++ t) ≡ (lacks d s && lacks d t)
 unfolding lacks
 lacks-append d [] t = refl
 lacks-append d (x ∷ s) t = ap (λ (b : Bool). not (eqb x d) && b) (lacks-append d s t) ∙ sym (and-assoc (not (eqb x d)) (lacks d s) (lacks d t))
-
--- a text lacks what its two halves lack
-pub lacks-halves : (d n : ℕ) (s : List ℕ) → lacks d s ≡ true → (lacks d (take n s) ≡ true) × (lacks d (drop n s) ≡ true)
-lacks-halves d n s h =
-    and-eq-true-iff (lacks d (take n s)) (lacks d (drop n s)) .0
-    (sym (lacks-append d (take n s) (drop n s)) ∙ ap (lacks d) (take-append-drop n s) ∙ h)
 
 -- what lacks d, before a d
 pub index-before : (d : ℕ) (p s : List ℕ) → lacks d p ≡ true → indexOf d (p ++ (d ∷ s)) ≡ length p

@@ -1,5 +1,5 @@
--- What equal texts, values, words and pairs are made of.
-use Prim.Native.Nat.{ℕ, suc, _+_, _≤_}
+-- What equal texts, values, keywords and pairs are made of.
+use Prim.Native.Nat.{ℕ, _+_, _≤_}
 use mathlib.Core.Bool.{Bool, true, false, cond, and-false, and-eq-true-iff, false≢true}
 use mathlib.Core.List.{List, [], _∷_, _++_}
 use mathlib.Core.Path.{_≡_, refl, sym, ap, _∙_}
@@ -7,16 +7,10 @@ use native.Mathlib.Omega.{arith}
 use borrow.Author.Tests.{eq-eqb, ne-eqb, eqb-true, lt-ltb, le-ltb}
 use lib.Dec.{eqb, ltb}
 use lib.ListN.{length, drop, drop-of-length-le}
-use lib.Seq.{drop-append-add}
-use Rattle.text.specs.Bytes.{same, lacks, indexOf, valueOf, isWord, isPair}
-use Rattle.text.proofs.Splits.{lacks-index, index-before, lacks-append}
+use Rattle.text.specs.Bytes.{same, lacks, indexOf, valueOf, isKeyword, isPair}
+use Rattle.text.proofs.Splits.{lacks-index, lacks-append}
 
 -- ---- equal texts
-
-pub same-self : (s : List ℕ) → same s s ≡ true
-unfolding same
-same-self [] = refl
-same-self (x ∷ s) = rw (eq-eqb x x refl, same-self s)
 
 pub same-true : (s t : List ℕ) → same s t ≡ true → s ≡ t
 unfolding same
@@ -50,31 +44,17 @@ value-pair (k ∷ ks) (b ∷ s) v e n = go (eqb b k) refl e (value-pair ks s v)
     go true q e r = ap (λ (z : ℕ). z ∷ s) (eqb-true b k q) ∙ ap (λ (l : List ℕ). k ∷ l) (r e n)
     go false q e r = absurd (n (sym e))
 
--- ---- words
+-- ---- keywords
 
-pub word-empty : (v : List ℕ) → length v ≡ 0 → isWord v ≡ false
-unfolding isWord
-word-empty [] h = refl
-word-empty (x ∷ v) h = absurd (omega arith)
+pub keyword-empty : (v : List ℕ) → length v ≡ 0 → isKeyword v ≡ false
+unfolding isKeyword
+keyword-empty [] h = refl
+keyword-empty (x ∷ v) h = absurd (omega arith)
 
-pub word-index : (v : List ℕ) → (length v ≡ 0 → ⊥) → eqb (indexOf 61 v) (length v) ≡ isWord v
-unfolding isWord
-word-index [] h = absurd (h refl)
-word-index (x ∷ v) h = lacks-index 61 (x ∷ v)
-
--- a word has a byte, and no equals sign
-pub word-parts : (v : List ℕ) → isWord v ≡ true → (v ≡ [] → ⊥) × (lacks 61 v ≡ true)
-unfolding isWord
-word-parts [] h = ((λ e. false≢true h), absurd (false≢true h))
-word-parts (x ∷ v) h = ((λ e. filled (ap length e)), h)
-  where
-    filled : suc (length v) ≡ 0 → ⊥
-    filled e = omega arith
-
-pub word-made : (v : List ℕ) → (v ≡ [] → ⊥) → lacks 61 v ≡ true → isWord v ≡ true
-unfolding isWord
-word-made [] n h = absurd (n refl)
-word-made (x ∷ v) n h = h
+pub keyword-index : (v : List ℕ) → (length v ≡ 0 → ⊥) → eqb (indexOf 61 v) (length v) ≡ isKeyword v
+unfolding isKeyword
+keyword-index [] h = absurd (h refl)
+keyword-index (x ∷ v) h = lacks-index 61 (x ∷ v)
 
 -- ---- pairs
 
@@ -84,27 +64,15 @@ module _ (p : List ℕ) (k : ℕ) (is : k ≡ indexOf 61 p) where
   pair-unkeyed z = rw (le-ltb 0 (indexOf 61 p) (omega arith))
 
   pub pair-unvalued : length p ≤ k → isPair p ≡ false
-  unfolding isPair isWord
+  unfolding isPair isKeyword
   pair-unvalued l =
       let h : length p ≤ indexOf 61 p + 1 = omega arith in
       let d : drop (indexOf 61 p + 1) p ≡ [] = drop-of-length-le p h in
       rw d (and-false (ltb 0 (indexOf 61 p)))
 
-  pub pair-keyed : (k ≡ 0 → ⊥) → isPair p ≡ isWord (drop (k + 1) p)
+  pub pair-keyed : (k ≡ 0 → ⊥) → isPair p ≡ isKeyword (drop (k + 1) p)
   unfolding isPair
-  pair-keyed n = rw (lt-ltb 0 (indexOf 61 p) (omega arith)) (ap (λ (m : ℕ). isWord (drop (m + 1) p)) (sym is))
-
--- a key that is a word, and a value that is one, are a pair
-pub pair-made : (k v : List ℕ) → isWord k ≡ true → isWord v ≡ true → isPair (k ++ (61 ∷ v)) ≡ true
-pair-made k v hk hv =
-    let q = word-parts k hk in
-    pair-keyed (k ++ (61 ∷ v)) (length k) (sym (index-before 61 k v (q .1))) (λ e. q .0 (none k e))
-    ∙ ap isWord (drop-append-add k (61 ∷ v) 1)
-    ∙ hv
-  where
-    none : (l : List ℕ) → length l ≡ 0 → l ≡ []
-    none [] e = refl
-    none (x ∷ l) e = absurd (omega arith)
+  pair-keyed n = rw (lt-ltb 0 (indexOf 61 p) (omega arith)) (ap (λ (m : ℕ). isKeyword (drop (m + 1) p)) (sym is))
 
 pub pair-lacks : (d : ℕ) (k v : List ℕ) → (61 ≡ d → ⊥) → lacks d k ≡ true → lacks d v ≡ true → lacks d (k ++ (61 ∷ v)) ≡ true
 unfolding lacks

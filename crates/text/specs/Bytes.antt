@@ -76,11 +76,11 @@ valueOf [] (b ∷ s) = cond (eqb b equalsSign) s []
 valueOf (k ∷ ks) [] = []
 valueOf (k ∷ ks) (b ∷ s) = cond (eqb b k) (valueOf ks s) []
 
--- Whether a value is a word: "nonempty value without =". A part between spaces has no space.
-unfoldable pub isWord : List ℕ → Bool
-isWord [] = false
-isWord (x ∷ s) = lacks equalsSign (x ∷ s)
+-- Whether a value is a keyword: "nonempty value without =". A part between spaces has no space.
+unfoldable pub isKeyword : List ℕ → Bool
+isKeyword [] = false
+isKeyword (x ∷ s) = lacks equalsSign (x ∷ s)
 
 -- Whether a part is a pair: "nonempty key, =, nonempty value without =".
 unfoldable pub isPair : List ℕ → Bool
-isPair p = ltb 0 (indexOf equalsSign p) && isWord (drop (indexOf equalsSign p + 1) p)
+isPair p = ltb 0 (indexOf equalsSign p) && isKeyword (drop (indexOf equalsSign p + 1) p)

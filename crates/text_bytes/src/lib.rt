@@ -7,8 +7,8 @@ mod values;
 mod writing;
 
 pub use decimals::read_decimal;
+pub use pairs::is_keyword;
 pub use pairs::is_pair;
-pub use pairs::is_word;
 pub use pieces::part_at;
 pub use pieces::same;
 pub use values::value_of;

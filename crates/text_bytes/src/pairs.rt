@@ -1,13 +1,12 @@
-// Words, and key=value pairs.
+// Keywords, and key=value pairs.
 use crate::pieces::part_at;
+use text::EQUALS_SIGN;
 ghost use mathlib.Core.Path.{_≡_};
-ghost use Rattle.text.specs.Bytes.{isWord, isPair};
-
-const EQUALS_SIGN: u8 = 61;
+ghost use Rattle.text.specs.Bytes.{isKeyword, isPair};
 
 // Whether a value has a byte, and no equals sign.
-pub fn is_word(v: &[u8]) -> bool
-    ensures { λ r. ⌜ r ≡ isWord (now (v .entry)) ⌝ }
+pub fn is_keyword(v: &[u8]) -> bool
+    ensures { λ r. ⌜ r ≡ isKeyword (now (v .entry)) ⌝ }
 {
     if v.len() == 0 {
         return false;
@@ -26,5 +25,5 @@ pub fn is_pair(p: &[u8]) -> bool
     if k >= p.len() {
         return false;
     }
-    is_word(&p[k + 1..])
+    is_keyword(&p[k + 1..])
 }

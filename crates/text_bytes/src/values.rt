@@ -1,8 +1,7 @@
 // Values of key=value pairs.
+use text::EQUALS_SIGN;
 ghost use mathlib.Core.Path.{_≡_};
 ghost use Rattle.text.specs.Bytes.{valueOf};
-
-const EQUALS_SIGN: u8 = 61;
 
 // The value's own part of the lent pair, after `key=`; no byte where the pair doesn't begin so.
 pub fn value_of<'a, 'b>(pair: &'a [u8], key: &'b [u8]) -> &'a [u8]

@@ -17,7 +17,7 @@ use crate::texts::pieces::nth;
 use crate::texts::pieces::nth_place;
 use crate::texts::pieces::op_in;
 use asm::Assembled;
-use grammar::Form;
+use grammar::LineKind;
 use grammar::LineRead;
 use op_lines::WordLine;
 use plan::EnginePlan;
@@ -28,7 +28,7 @@ use word::WORDS;
 const LAST_ADDRESS: u16 = (WORDS - 1) as u16;
 
 // An engine's plan by its line; unused where the line is refused.
-fn engine_plan(text: &[u8], n: usize, form: Form) -> EnginePlan {
+fn engine_plan(text: &[u8], n: usize, form: LineKind) -> EnginePlan {
     match line_reader::read_line(nth(text, n, LINE_FEED), form) {
         LineRead::Read(v) => assembler::engine_plan(v),
         LineRead::Refused(_) => EnginePlan::Unused,
@@ -37,9 +37,9 @@ fn engine_plan(text: &[u8], n: usize, form: Form) -> EnginePlan {
 
 // The plan by the first three lines.
 fn plan_of(text: &[u8]) -> Plan {
-    let engine1 = engine_plan(text, 0, Form::Engine1);
-    let engine2 = engine_plan(text, 1, Form::Engine2);
-    let engine3 = engine_plan(text, 2, Form::Engine3);
+    let engine1 = engine_plan(text, 0, LineKind::Plan(1));
+    let engine2 = engine_plan(text, 1, LineKind::Plan(2));
+    let engine3 = engine_plan(text, 2, LineKind::Plan(3));
     Plan {
         engine1,
         engine2,
@@ -49,12 +49,12 @@ fn plan_of(text: &[u8]) -> Plan {
 
 // What has to stand in a line: a form and, in the line of a word, its address and the engine that has it.
 struct Expected {
-    form: Form,
+    form: LineKind,
     address: u32,
     engine: u32,
 }
 
-fn plan_line(form: Form) -> Expected {
+fn plan_line(form: LineKind) -> Expected {
     Expected {
         form,
         address: 0,
@@ -65,14 +65,14 @@ fn plan_line(form: Form) -> Expected {
 // In line n, counted from 0.
 fn expect(text: &[u8], n: u16) -> Expected {
     match n {
-        0 => plan_line(Form::Engine1),
-        1 => plan_line(Form::Engine2),
-        2 => plan_line(Form::Engine3),
+        0 => plan_line(LineKind::Plan(1)),
+        1 => plan_line(LineKind::Plan(2)),
+        2 => plan_line(LineKind::Plan(3)),
         _ => {
             let plan = plan_of(text);
             let address = n - 3;
             Expected {
-                form: sheet_places::form_at(plan, address),
+                form: sheet_places::line_kind_at(plan, address),
                 address: address as u32,
                 engine: sheet_places::owner_at(plan, address) as u32,
             }
@@ -162,7 +162,7 @@ pub fn of_op_line(line: &[u8], read: WordLine) -> Message {
             quote: quoted(op_in(line)),
             ..refused(
                 say_one(templates::REFUSED, number),
-                lines::of_line(line, Form::Op),
+                lines::of_line(line, LineKind::Op),
             )
         },
     }

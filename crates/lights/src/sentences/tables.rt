@@ -6,20 +6,20 @@ use grammar::ALSO_HIGH;
 use grammar::ALSO_LOW;
 use grammar::FORM_AT;
 use grammar::HIGH;
+use grammar::KEYWORD_COUNT;
+use grammar::KEYWORD_FIRST;
 use grammar::LOW;
 use grammar::NAME_AT;
 use grammar::NAMES;
 use grammar::NUMBERS;
 use grammar::PAIR_KEY;
 use grammar::PAIR_KIND;
-use grammar::WORD_COUNT;
-use grammar::WORD_FIRST;
 use text_bytes::put_bytes;
 use text_bytes::same;
 ghost use Prim.Native.Nat.{_≤_, _<_};
 
 // The ops come first among the names.
-pub const OPS: u32 = WORD_FIRST[0] as u32;
+pub const OPS: u32 = KEYWORD_FIRST[0] as u32;
 
 // The kinds below this one are of numbers.
 pub const NUMBER_KINDS: u32 = NUMBERS as u32;
@@ -61,8 +61,8 @@ fn number_at(table: &[u16], place: usize) -> u32 {
     0
 }
 
-// The pairs of a form. The forms of the ops come first, in the order of their names, then those of the
-// plan lines.
+// The pairs of a form: what follows the first pair of a line. The forms of the ops come first, in the
+// order of their names, then that of the plan lines.
 pub(super) fn pairs_of(form: u32) -> Stretch {
     let at = form as usize;
     Stretch {
@@ -91,13 +91,13 @@ pub(super) fn ranges_of(kind: u32) -> Ranges {
 
 // The words of a kind among the names.
 pub(super) fn words_of(kind: u32) -> Stretch
-    requires { ⌜ 12 ≤ kind ⌝ }
+    requires { ⌜ 9 ≤ kind ⌝ }
 {
     let at = (kind - NUMBER_KINDS) as usize;
-    let from = small_at(&WORD_FIRST, at);
+    let from = small_at(&KEYWORD_FIRST, at);
     Stretch {
         from,
-        to: from + small_at(&WORD_COUNT, at),
+        to: from + small_at(&KEYWORD_COUNT, at),
     }
 }
 

@@ -199,7 +199,7 @@ pub const ROW_PLACE: usize = 89;
 pub const SPARE_PLACE: usize = 90;
 
 // In the order of the places above.
-const TABLE: [u8; 4070] = *b"\0\
+const TABLE: [u8; 4075] = *b"\0\
 ^: \0\
 malformed: \0\
 refused %: \0\
@@ -289,7 +289,7 @@ op=$ has *, in this order\0\
 $= has no value\0\
 $= is a decimal number without leading zeros\0\
 $= is ~\0\
-$= is ~ in this line\0\
+engine= is % in this line\0\
 a $ up has $= 1 to %\0\
 a plan line is engine=% use=no, or engine=% use=yes first=.. last=.. table=no, or with table=yes top=.. bottom=.. at its end\0\
 row= is followed by one decimal number without leading zeros\0\

@@ -13,7 +13,7 @@ use Rattle.word.specs.Profile.{LP5523}
 use Rattle.plan.specs.declared.Plan.{Plan}
 use Rattle.plan.specs.Verdict.{reportOf}
 use Rattle.plan.specs.Check.{checkRangesOf}
-use Rattle.grammar.specs.declared.Form.{Form}
+use Rattle.grammar.specs.declared.LineKind.{LineKind}
 use Rattle.assembler.specs.declared.WordRead.{WordRead}
 use Rattle.asm.specs.Reading.{Sheet, readWordLine, ranged, withWord, readWords}
 use Rattle.assembler.specs.Walks.{linesFrom, thenWord}
@@ -67,7 +67,7 @@ word-is c ws =
     let e = c .before .before in
     let p = e .before in
     c .read-word .ensures (after p) ws
-    ∙ ap (λ (f : Form). withWord (readWordLine LP5523 f (L p)) (K p + 4) (after p)) (c .before .form-at .ensures)
+    ∙ ap (λ (f : LineKind). withWord (readWordLine LP5523 f (L p)) (K p + 4) (after p)) (c .before .line-kind-at .ensures)
     ∙ sym (word-goes (P p) (K p) (take (K p) (W p)) (T p) (A p) (L p) (p .part-at .ensures) (p .before .loop-test .taken) (e .if1 .left))
     ∙ p .before .before .loop .inv .3
 

@@ -7,6 +7,7 @@ use borrow.Author.Needs.{needs}
 use lib.ListN.{length}
 use Rattle.word.specs.Profile.{LP5523}
 use Rattle.plan.specs.declared.EnginePlan.{EnginePlan}
+use Rattle.grammar.specs.declared.LineKind.the-variants as kind
 use Rattle.grammar.specs.Grammar.{readLine}
 use Rattle.asm.specs.Reading.{Sheet, readPlans}
 use Rattle.assembler.specs.Walks.{linesFrom}
@@ -19,9 +20,9 @@ returns : tie.Need-returns
 returns c =
     let p = c .before .before in
     let a = p .before .before .args in (
-      λ fs qs ws.
+      λ n qs ws.
           c .unended .ensures ws
-          ∙ sym (plan-rest (a .text .now) (a .at) (p .part-at .result .now) (p .part-at .ensures) (a .form) fs (a .number) qs (c .before .if1 .taken)),
+          ∙ sym (plan-rest (a .text .now) (a .at) (p .part-at .result .now) (p .part-at .ensures) n (a .engine) qs (c .before .if1 .taken)),
       tt,
     )
 
@@ -31,7 +32,7 @@ refusal-at-requires c κs =
     let r = k .before .before in
     let p = r .before .before in
     let a = p .before .before .args in
-    refused-with LP5523 (a .form) (p .part-at .result .now) (sym (r .read-line .ensures) ∙ k .k .given .1)
+    refused-with LP5523 (kind.Plan (a .engine)) (p .part-at .result .now) (sym (r .read-line .ensures) ∙ k .k .given .1)
 
 returns-2 : tie.Need-returns-2
 returns-2 c =
@@ -41,11 +42,11 @@ returns-2 c =
     let p = e .before in
     let a = p .before .before .args in
     let line = p .part-at .result .now in (
-      λ fs qs ws.
-          let next : EnginePlan → Sheet = λ q. readPlans LP5523 fs (a .number + 1) (qs ++ (q ∷ [])) (linesFrom (a .at + length line + 1) (a .text .now)) in
+      λ n qs ws.
+          let next : EnginePlan → Sheet = λ q. readPlans LP5523 n (a .engine + 1) (qs ++ (q ∷ [])) (linesFrom (a .at + length line + 1) (a .text .now)) in
           ap next (c .engine-plan .ensures)
-          ∙ plan-read (readLine LP5523 (a .form) line) (a .number) next (sym (r .read-line .ensures) ∙ v .v .given .1)
-          ∙ sym (plan-goes (a .text .now) (a .at) line (p .part-at .ensures) (a .form) fs (a .number) qs (e .if1 .left)),
+          ∙ plan-read (readLine LP5523 (kind.Plan (a .engine)) line) (a .engine) next (sym (r .read-line .ensures) ∙ v .v .given .1)
+          ∙ sym (plan-goes (a .text .now) (a .at) line (p .part-at .ensures) n (a .engine) qs (e .if1 .left)),
       omega (arith, e .if1 .left),
     )
 
@@ -57,10 +58,10 @@ returns-3 c =
     let p = e .before in
     let a = p .before .before .args in
     let line = p .part-at .result .now in (
-      λ fs qs ws.
+      λ n qs ws.
           c .refusal-at .ensures ws
-          ∙ plan-refused (readLine LP5523 (a .form) line) (a .number) _ (sym (r .read-line .ensures) ∙ k .k .given .1)
-          ∙ sym (plan-goes (a .text .now) (a .at) line (p .part-at .ensures) (a .form) fs (a .number) qs (e .if1 .left)),
+          ∙ plan-refused (readLine LP5523 (kind.Plan (a .engine)) line) (a .engine) _ (sym (r .read-line .ensures) ∙ k .k .given .1)
+          ∙ sym (plan-goes (a .text .now) (a .at) line (p .part-at .ensures) n (a .engine) qs (e .if1 .left)),
       tt,
     )
 

@@ -1,7 +1,7 @@
 -- `assembler::refusals::refusal_at` meets its contract.
 use Prim.Native.Nat.{ℕ}
-use mathlib.Core.Logic.{⊎-elim}
-use mathlib.Core.Path.{sym, ap}
+use mathlib.Core.Path.{_≡_, sym, ap}
+use native.Mathlib.Omega.{arith}
 use Rattle.asm.specs.Reading.{refused-at}
 use Rattle.assembler.proofs.refusals.refusal_at.Statement.{statement}
 use Rattle.assembler.proofs.refusals.refusal_at.Tie as tie
@@ -10,9 +10,10 @@ use Rattle.assembler.proofs.refusals.refusal_at.Tie as tie
 returns-3 : tie.Need-returns-3
 returns-3 c ws =
     let s = c .before in
-    let others = c .match .rest in
-    ap (λ (n : ℕ). refused-at n (s .args .line))
-    (⊎-elim (λ e. absurd (others .0 .1 e)) (⊎-elim (λ e. absurd (others .1 e)) sym) (s .pre))
+    let n20 = c .match .rest .0 .1 in
+    let n21 = c .match .rest .1 in
+    let z : 22 ≡ s .args .number = omega (arith, s .pre .0, s .pre .1) in
+    ap (λ (n : ℕ). refused-at n (s .args .line)) z
 
 pub refusal-at-spec : {M : Type 1} → statement M
 refusal-at-spec =

@@ -17,22 +17,22 @@ returns : tie.Need-returns
 returns c f ws =
     let w = c .before in
     let r = w .before .before in
-    arm (r .assemble-line .ensures) (w .w .given .1) (r .before .before .args .number) f
+    arm (r .assemble-line .ensures) (w .w .given .1) (r .before .before .args .line) f
 
 returns-2 : tie.Need-returns-2
 returns-2 c f ws =
     let r = c .before .before in
-    arm (r .assemble-line .ensures) (c .enum-told .given .1) (r .before .before .args .number) f
+    arm (r .assemble-line .ensures) (c .enum-told .given .1) (r .before .before .args .line) f
 
 returns-3 : tie.Need-returns-3
 returns-3 c f ws =
     let r = c .before .before in
-    arm (r .assemble-line .ensures) (c .enum-told2 .given .1) (r .before .before .args .number) f
+    arm (r .assemble-line .ensures) (c .enum-told2 .given .1) (r .before .before .args .line) f
 
 returns-4 : tie.Need-returns-4
 returns-4 c f ws =
     let r = c .before .before in
-    arm (r .assemble-line .ensures) (c .enum-told3 .given .1) (r .before .before .args .number) f
+    arm (r .assemble-line .ensures) (c .enum-told3 .given .1) (r .before .before .args .line) f
 
 pub op-word-spec : {M : Type 1} → statement M
 op-word-spec =

@@ -13,14 +13,14 @@ refusal-at-requires c κs =
     let k = c .before in
     let r = k .before .before in
     let a = r .before .before .args in
-    refused-with LP5523 (a .form) (a .line .now) (sym (r .read-line .ensures) ∙ k .k .given .1)
+    refused-with LP5523 (a .kind) (a .part .now) (sym (r .read-line .ensures) ∙ k .k .given .1)
 
 returns : tie.Need-returns
 returns c f ws =
     let v = c .before in
     let r = v .before .before in
     let a = r .before .before .args in
-    word-read (readLine LP5523 (a .form) (a .line .now)) (a .number) f (sym (r .read-line .ensures) ∙ v .v .given .1)
+    word-read (readLine LP5523 (a .kind) (a .part .now)) (a .line) f (sym (r .read-line .ensures) ∙ v .v .given .1)
 
 returns-2 : tie.Need-returns-2
 returns-2 c f ws =
@@ -28,7 +28,7 @@ returns-2 c f ws =
     let r = k .before .before in
     let a = r .before .before .args in
     c .refusal-at .ensures ws
-    ∙ word-refused (readLine LP5523 (a .form) (a .line .now)) (a .number) f (line-proper LP5523 (a .form) (a .line .now))
+    ∙ word-refused (readLine LP5523 (a .kind) (a .part .now)) (a .line) f (line-proper LP5523 (a .kind) (a .part .now))
     (sym (r .read-line .ensures) ∙ k .k .given .1)
 
 pub plain-word-spec : {M : Type 1} → statement M

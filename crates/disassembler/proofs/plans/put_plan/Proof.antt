@@ -4,6 +4,7 @@ use native.Mathlib.Omega.{arith}
 use borrow.Author.Needs.{needs}
 use Rattle.text.proofs.Puts.{put-append, put-is}
 use Rattle.word.specs.Profile.{LP5523}
+use Rattle.grammar.specs.declared.LineKind.the-variants.{Plan}
 use Rattle.grammar.specs.declared.Values.{Values}
 use Rattle.grammar.specs.Grammar.{writeLine}
 use Rattle.grammar.specs.Tables.{listOf}
@@ -21,9 +22,9 @@ put-plan-spec =
     (search needs)
     (λ c.
     let l = c .before .before .before .before in
-    let v = l .before .before .before in
-    let s = v .before .before .before in
+    let v = l .before .before .before .before in
+    let s = v .before .before in
     put-append (omega arith)
-    (put-is (ap (λ (x : Values). writeLine LP5523 (s .args .form) (listOf x)) (v .plan-values .ensures) ∙ plan-line (s .args .form) (s .args .engine) (s .args .q) (s .pre))
+    (put-is (ap (λ (x : Values). writeLine LP5523 (Plan (s .args .engine)) (listOf x)) (v .plan-values .ensures) ∙ plan-line (s .args .engine) (s .args .q))
     (l .before .before .put-line .ensures))
     (c .before .before .put-byte .ensures)))

@@ -7,9 +7,9 @@ use lib.ListN.{length, getD}
 use Rattle.text.specs.Bytes.{lineFeed}
 use Rattle.text.proofs.Puts.{put-is, put-length, SoFar, so-far-none, so-far-more, so-far-all}
 use Rattle.word.specs.Profile.{LP5523}
-use Rattle.grammar.specs.declared.Form.{Form}
+use Rattle.grammar.specs.declared.LineKind.{LineKind}
 use Rattle.line_writer.proofs.Written.{so-far-is}
-use Rattle.asm.specs.Places.{formAt}
+use Rattle.asm.specs.Places.{lineKindAt}
 use Rattle.asm.specs.Writing.{wordLine}
 use Rattle.disassembler.specs.Walks.{IsWordLine}
 use Rattle.disassembler.proofs.SheetText.{word-at, wordsFrom, words-step, words-end}
@@ -33,7 +33,7 @@ put-words-spec =
     (λ c. omega arith)
     (λ c. omega arith)
     (λ c κs. tt)
-    (λ c κs. subst IsWordLine (sym (c .form-at .ensures)) (word-at LP5523 _ _))
+    (λ c κs. subst IsWordLine (sym (c .line-kind-at .ensures)) (word-at LP5523 _ _))
     (λ c. omega arith)
     (λ c. omega arith)
     (λ c.
@@ -41,9 +41,9 @@ put-words-spec =
     let l = f .before .before .before .before in
     let a = l .before .before .before .args in
     let w = getD (a .image .now) (l .loop .k) 0 in
-    so-far-more (wordLine LP5523 (formAt LP5523 (a .plan) (l .loop .k)) w ++ (lineFeed ∷ [])) (wordsFrom LP5523 (a .plan) (a .image .now) (l .loop .k + 1))
+    so-far-more (wordLine LP5523 (lineKindAt LP5523 (a .plan) (l .loop .k)) w ++ (lineFeed ∷ [])) (wordsFrom LP5523 (a .plan) (a .image .now) (l .loop .k + 1))
     (so-far-is (words-step LP5523 (a .plan) (a .image .now) (l .loop .k) (omega arith)) (l .loop .inv))
-    (put-is (ap (λ (x : Form). wordLine LP5523 x w ++ (lineFeed ∷ [])) (f .form-at .ensures)) (c .before .before .put-word .ensures)))
+    (put-is (ap (λ (x : LineKind). wordLine LP5523 x w ++ (lineFeed ∷ [])) (f .line-kind-at .ensures)) (c .before .before .put-word .ensures)))
     (λ c. put-length (c .before .loop .inv .put))
     (λ c.
     let l = c .before in

@@ -22,19 +22,20 @@ use crate::texts::pieces::ends_in;
 use crate::texts::pieces::key_of;
 use crate::texts::pieces::op_in;
 use crate::texts::pieces::until;
-use grammar::Form;
+use grammar::LineKind;
+use grammar::PLAN_FORM;
 use text::Decimal;
 use text_bytes::part_at;
 use text_bytes::read_decimal;
 use text_bytes::same;
-ghost use Prim.Native.Nat.{_≤_, _<_};
+ghost use Prim.Native.Nat.{_<_};
 
 const TAB: u8 = 9;
 
 const CARRIAGE_RETURN: u8 = 13;
 
-// The form before those of the plan lines, which are by engine and stand behind those of the ops.
-const BEFORE_PLANS: u32 = OPS - 1;
+// The form of the plan lines.
+const PLAN: u32 = PLAN_FORM as u32;
 
 // The greatest number of 16 bits.
 const MOST: u32 = 65_535;
@@ -106,11 +107,15 @@ fn of_op(line: &[u8]) -> Say {
     of_unknown(v)
 }
 
-fn of_plan(line: &[u8], engine: u32) -> Say
-    requires { ⌜ engine ≤ 3 ⌝ }
-{
+// A plan line that is refused though each value after the first is allowed has another engine's number.
+fn of_plan(line: &[u8], engine: u32) -> Say {
     let plan = say_two(templates::PLAN, engine, engine);
-    fault_of(line, 0, pairs_of(BEFORE_PLANS + engine), plan, plan)
+    let number = text_bytes::value_of(part_at(line, 0, SPACE), b"engine");
+    if let Decimal::Malformed = read_decimal(number, MOST) {
+        return plan;
+    }
+    let other = say_one(templates::ENGINE, engine);
+    fault_of(line, after(line, 0, SPACE), pairs_of(PLAN), plan, other)
 }
 
 // A line of one pair, whose value is a number of 16 bits: the sentence about its range, or its shape.
@@ -121,14 +126,12 @@ fn of_single(line: &[u8], key: &[u8], range: usize, shape: usize) -> Say {
     say_only(shape)
 }
 
-fn of_form(line: &[u8], form: Form) -> Say {
+fn of_form(line: &[u8], form: LineKind) -> Say {
     match form {
-        Form::Op => of_op(line),
-        Form::Engine1 => of_plan(line, 1),
-        Form::Engine2 => of_plan(line, 2),
-        Form::Engine3 => of_plan(line, 3),
-        Form::Row => of_single(line, b"row", templates::ROW_RANGE, templates::ROW_SHAPE),
-        Form::Spare => of_single(
+        LineKind::Op => of_op(line),
+        LineKind::Plan(engine) => of_plan(line, engine as u32),
+        LineKind::Row => of_single(line, b"row", templates::ROW_RANGE, templates::ROW_SHAPE),
+        LineKind::Spare => of_single(
             line,
             b"spare",
             templates::SPARE_RANGE,
@@ -137,7 +140,7 @@ fn of_form(line: &[u8], form: Form) -> Say {
     }
 }
 
-pub fn of_line(line: &[u8], form: Form) -> Say {
+pub fn of_line(line: &[u8], form: LineKind) -> Say {
     if line.len() == 0 {
         return say_only(templates::EMPTY_LINE);
     }

@@ -63,11 +63,6 @@ const NO_WORD: Judged = Judged {
     template: templates::ALLOWED,
 };
 
-const OTHER_ENGINE: Judged = Judged {
-    rank: NOT_ALLOWED,
-    template: templates::ENGINE,
-};
-
 const OUTSIDE: Judged = Judged {
     rank: NOT_ALLOWED,
     template: templates::ALLOWED,
@@ -98,9 +93,6 @@ fn judge_number(v: &[u8], r: Ranges) -> Judged {
                 return FINE;
             }
         }
-    }
-    if r.low == r.also_high {
-        return OTHER_ENGINE;
     }
     OUTSIDE
 }

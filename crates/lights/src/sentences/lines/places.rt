@@ -4,20 +4,20 @@ use crate::sentences::say::say_two;
 use crate::sentences::templates;
 use crate::texts::pieces::key_of;
 use crate::texts::pieces::place_of;
-use grammar::Form;
+use grammar::LineKind;
 
 // The place of a form's key among those of the words' lines; past the last for the plan lines.
-fn place(form: Form) -> usize {
+fn place(form: LineKind) -> usize {
     match form {
-        Form::Op => 0,
-        Form::Row => 1,
-        Form::Spare => 2,
-        Form::Engine1 | Form::Engine2 | Form::Engine3 => 3,
+        LineKind::Op => 0,
+        LineKind::Row => 1,
+        LineKind::Spare => 2,
+        LineKind::Plan(_) => 3,
     }
 }
 
 // Whether a line begins as the line of a word, but not as one of this form.
-pub fn is_elsewhere(line: &[u8], form: Form) -> bool {
+pub fn is_elsewhere(line: &[u8], form: LineKind) -> bool {
     let key = key_of(line);
     if key.len() == line.len() {
         return false;
@@ -31,13 +31,11 @@ pub fn is_elsewhere(line: &[u8], form: Form) -> bool {
 
 // What belongs where a line stands: at the word with this address, which is code or a row of this engine
 // or neither, by the form; or at an engine's plan line.
-pub fn of_place(form: Form, engine: u32, address: u32) -> Say {
+pub fn of_place(form: LineKind, engine: u32, address: u32) -> Say {
     match form {
-        Form::Op => say_two(templates::CODE_PLACE, address, engine),
-        Form::Engine1 => say_two(templates::PLAN, 1, 1),
-        Form::Engine2 => say_two(templates::PLAN, 2, 2),
-        Form::Engine3 => say_two(templates::PLAN, 3, 3),
-        Form::Row => say_two(templates::ROW_PLACE, address, engine),
-        Form::Spare => say_two(templates::SPARE_PLACE, address, 0),
+        LineKind::Op => say_two(templates::CODE_PLACE, address, engine),
+        LineKind::Plan(i) => say_two(templates::PLAN, i as u32, i as u32),
+        LineKind::Row => say_two(templates::ROW_PLACE, address, engine),
+        LineKind::Spare => say_two(templates::SPARE_PLACE, address, 0),
     }
 }

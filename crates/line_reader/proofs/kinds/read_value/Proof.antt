@@ -2,8 +2,9 @@
 use Prim.Native.Nat.{ℕ, _-_, _≤_, _<_}
 use mathlib.Core.Path.{sym, _∙_}
 use native.Mathlib.Omega.{arith}
-use Rattle.grammar.proofs.Tables.{wordFirst, wordCount, words-within, first-fits, count-fits}
-use Rattle.grammar.proofs.Ranges.{number-value, word-value}
+use Rattle.grammar.specs.Tables.{numberKinds, kindCount}
+use Rattle.grammar.proofs.Tables.{keywordFirst, keywordCount, keywords-within, first-fits, count-fits}
+use Rattle.grammar.proofs.Ranges.{number-value, keyword-value}
 use Rattle.line_reader.proofs.kinds.read_value.Statement.{statement}
 use Rattle.line_reader.proofs.kinds.read_value.Tie as tie
 
@@ -12,30 +13,30 @@ returns c =
     let a = c .before .before .before .args in
     c .number-of .ensures ∙ sym (number-value (a .kind) (a .v .now) (c .before .if1 .taken))
 
--- a kind that is none of numbers has its words in the tables
-listed : {k : ℕ} → k < 16 → 12 ≤ k → k - 12 < 4
+-- a kind that is none of numbers has its keywords in the tables
+listed : {k : ℕ} → k < kindCount → numberKinds ≤ k → k - numberKinds < 4
 listed h l = omega arith
 
-at : (c : tie.Else1) → c .before .before .args .kind - 12 < 4
+at : (c : tie.Else1) → c .before .before .args .kind - numberKinds < 4
 at c = listed (c .before .before .pre) (c .if1 .left)
 
-cast-read-word : tie.Need-cast-read-word
-unfolding wordFirst
-cast-read-word c = first-fits _ (at c)
+cast-read-keyword : tie.Need-cast-read-keyword
+unfolding keywordFirst
+cast-read-keyword c = first-fits _ (at c)
 
-cast-read-word-2 : tie.Need-cast-read-word-2
-unfolding wordCount
-cast-read-word-2 c = count-fits _ (at c)
+cast-read-keyword-2 : tie.Need-cast-read-keyword-2
+unfolding keywordCount
+cast-read-keyword-2 c = count-fits _ (at c)
 
-read-word-requires : tie.Need-read-word-requires
-unfolding wordFirst wordCount
-read-word-requires c κs = words-within _ (at c)
+read-keyword-requires : tie.Need-read-keyword-requires
+unfolding keywordFirst keywordCount
+read-keyword-requires c κs = keywords-within _ (at c)
 
 returns-2 : tie.Need-returns-2
-unfolding wordFirst wordCount
+unfolding keywordFirst keywordCount
 returns-2 c =
     let s = c .before .before .before in
-    c .read-word .ensures ∙ sym (word-value (s .args .kind) (s .args .v .now) (c .before .if1 .left) (s .pre))
+    c .read-keyword .ensures ∙ sym (keyword-value (s .args .kind) (s .args .v .now) (c .before .if1 .left) (s .pre))
 
 pub read-value-spec : {M : Type 1} → statement M
 read-value-spec =
@@ -44,8 +45,8 @@ read-value-spec =
     (λ c κs. c .if1 .taken)
     returns
     at
-    cast-read-word
+    cast-read-keyword
     at
-    cast-read-word-2
-    read-word-requires
+    cast-read-keyword-2
+    read-keyword-requires
     returns-2)

@@ -5,6 +5,7 @@ use mathlib.Core.Path.{sym, ap, _∙_}
 use borrow.Author.Needs.{fits-under}
 use mir.Syntax.{w64}
 use Rattle.text.specs.Bytes.{valueOf}
+use Rattle.grammar.specs.Tables.{nameCount}
 use Rattle.grammar.proofs.Tables.{in-table, next-in-table, scaled, nameBytes, nameAt, name-starts, name-ends, name-fits, name-is}
 use Rattle.line_reader.proofs.names.value_after.Statement.{statement}
 use Rattle.line_reader.proofs.names.value_after.Tie as tie
@@ -42,7 +43,7 @@ value-after-spec =
     (λ c. scaled _ (in-table (c .before .pre) tt))
     (λ c. in-table (c .before .pre) tt)
     cast-a
-    (λ c. fits-under w64 _ 65 (next-in-table _ (c .before .pre) tt) tt)
+    (λ c. fits-under w64 _ (nameCount + 1) (next-in-table _ (c .before .pre) tt) tt)
     (λ c. scaled _ (next-in-table _ (c .before .pre) tt))
     (λ c. next-in-table _ (c .before .pre) tt)
     cast-e

@@ -5,7 +5,7 @@ use mathlib.Core.Path.{sym, ap, _∙_}
 use borrow.Author.Needs.{fits-under}
 use mir.Syntax.{w64}
 use Rattle.grammar.specs.Form.{Pair, readForm}
-use Rattle.grammar.specs.Tables.{partsFrom, lineReadOf}
+use Rattle.grammar.specs.Tables.{formCount, partsFrom, lineReadOf}
 use Rattle.grammar.proofs.Tables.{in-table, next-in-table, formAt, form-is, form-ends, form-fits}
 use Rattle.line_reader.proofs.pairs.read_form.Statement.{statement}
 use Rattle.line_reader.proofs.pairs.read_form.Tie as tie
@@ -35,7 +35,7 @@ read-form-spec =
     (tie.spec
     (λ c. in-table (c .before .pre) tt)
     cast-read-pairs
-    (λ c. fits-under w64 _ 35 (next-in-table _ (c .before .pre) tt) tt)
+    (λ c. fits-under w64 _ (formCount + 1) (next-in-table _ (c .before .pre) tt) tt)
     (λ c. next-in-table _ (c .before .pre) tt)
     cast-read-pairs-2
     read-pairs-requires

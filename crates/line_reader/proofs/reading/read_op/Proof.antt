@@ -8,33 +8,33 @@ use Rattle.text.specs.Bytes.{ascii, space, split, valueOf}
 use Rattle.word.specs.Profile.{LP5523}
 use Rattle.grammar.specs.declared.Value.{Value}
 use Rattle.grammar.specs.declared.Value.the-variants.{Number}
-use Rattle.grammar.specs.Form.{readWord}
+use Rattle.grammar.specs.Form.{readKeyword}
 use Rattle.grammar.specs.Grammar.{readOp, named}
-use Rattle.grammar.specs.Tables.{partsFrom, lineReadOf, beforeRead}
-use Rattle.line_reader.proofs.Walk.{wordsFrom, read-before, op-line, op-small, op-stops, op-goes}
+use Rattle.grammar.specs.Tables.{opCount, partsFrom, lineReadOf, beforeRead}
+use Rattle.line_reader.proofs.Walk.{keywordsFrom, read-before, op-line, op-small, op-stops, op-goes}
 use Rattle.line_reader.proofs.reading.read_op.Statement.{statement}
 use Rattle.line_reader.proofs.reading.read_op.Tie as tie
 
--- the word that was read is that of the line's first part
-word-is : (c : tie.After-read-word) → c .read-word .result ≡ readWord (wordsFrom 0 31) (valueOf (ascii "op") (c .before .before .before .part-at .result .now))
-word-is c = c .read-word .ensures ∙ ap (readWord (wordsFrom 0 31)) (c .before .value-of .ensures)
+-- the keyword that was read is that of the line's first part
+keyword-is : (c : tie.After-read-keyword) → c .read-keyword .result ≡ readKeyword (keywordsFrom 0 opCount) (valueOf (ascii "op") (c .before .before .before .part-at .result .now))
+keyword-is c = c .read-keyword .ensures ∙ ap (readKeyword (keywordsFrom 0 opCount)) (c .before .value-of .ensures)
 
--- what the line is, by that word
-line-is : (c : tie.After-read-word) (v : Value) → c .read-word .result ≡ v →
+-- what the line is, by that keyword
+line-is : (c : tie.After-read-keyword) (v : Value) → c .read-keyword .result ≡ v →
     let p = c .before .before .before in
     let line = p .before .before .args .line .now in
     readOp LP5523 (split space line) ≡ named LP5523 v (partsFrom (length (p .part-at .result .now) + 1) line)
 line-is c v e =
     let p = c .before .before .before in
-    op-line (p .before .before .args .line .now) (p .part-at .result .now) v (p .part-at .ensures) (sym e ∙ word-is c)
+    op-line (p .before .before .args .line .now) (p .part-at .result .now) v (p .part-at .ensures) (sym e ∙ keyword-is c)
 
-small : (c : tie.After-op) → c .op .given .0 .0 < 31
-small c = op-small _ (c .op .given .0 .0) (sym (word-is (c .before .before)) ∙ c .op .given .1)
+small : (c : tie.After-op) → c .op .given .0 .0 < opCount
+small c = op-small _ (c .op .given .0 .0) (sym (keyword-is (c .before .before)) ∙ c .op .given .1)
 
 returns : tie.Need-returns
 returns c =
     let w = c .before .before in
-    c .stopped .ensures ∙ sym (ap lineReadOf (line-is w (w .read-word .result) refl ∙ op-stops _ (w .read-word .result) (c .before .match .keys2)))
+    c .stopped .ensures ∙ sym (ap lineReadOf (line-is w (w .read-keyword .result) refl ∙ op-stops _ (w .read-keyword .result) (c .before .match .keys2)))
 
 returns-2 : tie.Need-returns-2
 returns-2 c =

@@ -6,44 +6,45 @@ use borrow.Author.Needs.{needs, fits-under}
 use lib.ListN.{getD}
 use mir.Syntax.{w64}
 use Rattle.text.proofs.Puts.{put-nil, put-is}
-use Rattle.grammar.proofs.Tables.{wordFirst, wordCount, words-within, first-fits, count-fits}
-use Rattle.line_writer.proofs.Written.{number-text, word-name, word-none}
+use Rattle.grammar.specs.Tables.{nameCount, numberKinds, kindCount}
+use Rattle.grammar.proofs.Tables.{keywordFirst, keywordCount, keywords-within, first-fits, count-fits}
+use Rattle.line_writer.proofs.Written.{number-text, keyword-name, keyword-none}
 use Rattle.line_writer.proofs.kinds.put_value.Statement.{statement}
 use Rattle.line_writer.proofs.kinds.put_value.Tie as tie
 
--- a kind that is none of numbers has its words in the tables
-listed : {k : ℕ} → k < 16 → 12 ≤ k → k - 12 < 4
+-- a kind that is none of numbers has its keywords in the tables
+listed : {k : ℕ} → k < kindCount → numberKinds ≤ k → k - numberKinds < 4
 listed h l = omega arith
 
-named : (a b n : ℕ) → a + b ≤ 64 → n < b → a + n < 64
+named : (a b n : ℕ) → a + b ≤ nameCount → n < b → a + n < nameCount
 named a b n h l = omega arith
 
 -- where a name is written: its kind's place in the tables, and that it is among the names
 abbrev at-start : tie.After-put-name-arg → tie.Start
 at-start c = c .before .before .before .before
 
-at : (c : tie.After-put-name-arg) → at-start c .args .kind - 12 < 4
+at : (c : tie.After-put-name-arg) → at-start c .args .kind - numberKinds < 4
 at c = listed (at-start c .pre) (c .before .before .if1 .left)
 
-among : (c : tie.After-put-name-arg) → getD wordFirst (at-start c .args .kind - 12) 0 + at-start c .args .n < 64
-unfolding wordFirst wordCount
-among c = named _ _ _ (words-within _ (at c)) (c .before .if2 .taken)
+among : (c : tie.After-put-name-arg) → getD keywordFirst (at-start c .args .kind - numberKinds) 0 + at-start c .args .n < nameCount
+unfolding keywordFirst keywordCount
+among c = named _ _ _ (keywords-within _ (at c)) (c .before .if2 .taken)
 
 returns-2 : tie.Need-returns-2
-unfolding wordFirst wordCount
+unfolding keywordFirst keywordCount
 returns-2 c =
     let n = c .before .before .before in
     let a = at-start n .args in
-    put-is (sym (word-name (a .kind) (a .n) (n .before .before .if1 .left) (at-start n .pre) (n .before .if2 .taken))) (c .before .before .put-name .ensures)
+    put-is (sym (keyword-name (a .kind) (a .n) (n .before .before .if1 .left) (at-start n .pre) (n .before .if2 .taken))) (c .before .before .put-name .ensures)
 
 returns-3 : tie.Need-returns-3
-unfolding wordCount
+unfolding keywordCount
 returns-3 c =
     let s = c .before .before .before in
-    put-is (sym (word-none (s .args .kind) (s .args .n) (c .before .if1 .left) (s .pre) (c .if2 .left))) (put-nil _ _ (omega arith))
+    put-is (sym (keyword-none (s .args .kind) (s .args .n) (c .before .if1 .left) (s .pre) (c .if2 .left))) (put-nil _ _ (omega arith))
 
 pub put-value-spec : {M : Type 1} → statement M
-unfolding wordFirst wordCount
+unfolding keywordFirst keywordCount
 put-value-spec =
     tie.close
     (tie.spec
@@ -56,7 +57,7 @@ put-value-spec =
     (λ c. count-fits _ (listed (c .before .before .pre) (c .if1 .left)))
     at
     (λ c. first-fits _ (at c))
-    (λ c. fits-under w64 _ 64 (among c) tt)
+    (λ c. fits-under w64 _ nameCount (among c) tt)
     (λ c κs. among c)
     (search needs)
     returns-2

@@ -4,6 +4,7 @@ use mathlib.Core.Path.{sym}
 use borrow.Author.Needs.{needs, fits-under}
 use mir.Syntax.{w64}
 use Rattle.text.proofs.Puts.{put-is}
+use Rattle.grammar.specs.Tables.{nameCount}
 use Rattle.grammar.proofs.Tables.{in-table, next-in-table, scaled, nameBytes, nameAt, name-starts, name-ends, name-fits, name-is}
 use Rattle.line_writer.proofs.names.put_name.Statement.{statement}
 use Rattle.line_writer.proofs.names.put_name.Tie as tie
@@ -22,7 +23,7 @@ put-name-spec =
     (λ c. scaled _ (in-table (c .before .pre) tt))
     (λ c. in-table (c .before .pre) tt)
     (λ c. name-fits (c .before .args .k) (in-table (c .before .pre) tt))
-    (λ c. fits-under w64 _ 65 (next-in-table _ (c .before .pre) tt) tt)
+    (λ c. fits-under w64 _ (nameCount + 1) (next-in-table _ (c .before .pre) tt) tt)
     (λ c. scaled _ (next-in-table _ (c .before .pre) tt))
     (λ c. next-in-table _ (c .before .pre) tt)
     (λ c. name-fits (c .before .args .k + 1) (next-in-table _ (c .before .pre) tt))

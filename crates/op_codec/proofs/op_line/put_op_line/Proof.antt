@@ -5,9 +5,9 @@ use Rattle.text.specs.Bytes.{space, join}
 use Rattle.text.proofs.Puts.{put-is}
 use Rattle.word.specs.Profile.{LP5523}
 use Rattle.word.specs.declared.Word.{Word}
-use Rattle.grammar.specs.declared.Form.the-variants.{Op}
 use Rattle.grammar.specs.declared.Values.{Values}
 use Rattle.grammar.specs.Grammar.{writeParts, writeLine}
+use Rattle.grammar.specs.declared.LineKind.the-variants.{Op}
 use Rattle.grammar.specs.Tables.{listOf}
 use Rattle.op_lines.specs.Values.{opValues}
 use Rattle.op_lines.specs.Lines.{opLineOf}

@@ -2,7 +2,7 @@
 use mathlib.Core.Path.{_≡_, sym, _∙_}
 use borrow.Author.Needs.{needs}
 use Rattle.word.specs.Profile.{LP5523}
-use Rattle.grammar.specs.declared.Form.the-variants.{Op}
+use Rattle.grammar.specs.declared.LineKind.the-variants.{Op}
 use Rattle.grammar.specs.declared.LineRead.the-variants.{Read, Refused}
 use Rattle.grammar.specs.Grammar.{readLine}
 use Rattle.grammar.specs.Tables.{lineReadOf}
@@ -26,6 +26,6 @@ assemble-line-spec =
     (search needs)
     (λ c κs. read-code _ (read (c .before)) .0)
     (search needs)
-    (λ c κs. refuses-exactly LP5523 Op _ .others _ (refused-as _ (unread (c .before))))
+    (λ c κs. refuses-exactly LP5523 Op _ tt .others _ (refused-as _ (unread (c .before))))
     (λ c. c .code-of .ensures ∙ read-code _ (read (c .before .before)) .1)
     (λ c. c .refused .ensures ∙ refused-code _ (unread (c .before .before))))

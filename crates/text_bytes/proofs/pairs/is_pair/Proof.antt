@@ -3,7 +3,7 @@ use mathlib.Core.Path.{_≡_, sym, ap, _∙_}
 use native.Mathlib.Omega.{arith}
 use borrow.Author.Needs.{needs}
 use lib.ListN.{length}
-use Rattle.text.specs.Bytes.{equalsSign, indexOf, isWord}
+use Rattle.text.specs.Bytes.{equalsSign, indexOf, isKeyword}
 use Rattle.text.proofs.Splits.{part-length}
 use Rattle.text.proofs.Turns.{rest-whole}
 use Rattle.text.proofs.Values.{pair-unkeyed, pair-unvalued, pair-keyed}
@@ -28,7 +28,7 @@ returns-3 : tie.Need-returns-3
 returns-3 c =
     let f = c .before .before .before .before in
     let p = f .before .before .args .p .now in
-    c .is-word .ensures ∙ ap isWord (rest-whole p _) ∙ sym (pair-keyed p _ (key f) (λ e. omega arith))
+    c .is-keyword .ensures ∙ ap isKeyword (rest-whole p _) ∙ sym (pair-keyed p _ (key f) (λ e. omega arith))
 
 pub is-pair-spec : {M : Type 1} → statement M
 is-pair-spec =

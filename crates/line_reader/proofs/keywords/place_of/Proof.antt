@@ -1,4 +1,4 @@
--- `line_reader::words::place_of` meets its contract. The invariant: the place among all is the place among those left.
+-- `line_reader::keywords::place_of` meets its contract. The invariant: the place among all is the place among those left.
 use Prim.Native.Nat.{ℕ, _+_, _-_, _≤_, _<_}
 use mathlib.Core.Bool.{true, false}
 use mathlib.Core.List.{[]}
@@ -9,14 +9,14 @@ use lib.ListN.{getD, drop}
 use mir.Syntax.{w64}
 use Rattle.text.specs.Bytes.{same}
 use Rattle.grammar.specs.Form.{placeOf}
-use Rattle.grammar.specs.Tables.{names}
+use Rattle.grammar.specs.Tables.{nameCount, names}
 use Rattle.grammar.proofs.Tables.{in-table, next-in-table, scaled, nameBytes, nameAt, name-starts, name-ends, name-fits, name-is}
-use Rattle.line_reader.proofs.Walk.{wordsFrom, place-step, place-end}
-use Rattle.line_reader.proofs.words.place_of.Statement.{statement}
-use Rattle.line_reader.proofs.words.place_of.Tie as tie
+use Rattle.line_reader.proofs.Walk.{keywordsFrom, place-step, place-end}
+use Rattle.line_reader.proofs.keywords.place_of.Statement.{statement}
+use Rattle.line_reader.proofs.keywords.place_of.Tie as tie
 
 abbrev Inv-loop : tie.InvT-loop
-Inv-loop v first count bytes places i₀ i = (i ≤ count) × (placeOf (wordsFrom first count) 0 v ≡ placeOf (drop i (wordsFrom first count)) i v)
+Inv-loop v first count bytes places i₀ i = (i ≤ count) × (placeOf (keywordsFrom first count) 0 v ≡ placeOf (drop i (keywordsFrom first count)) i v)
 
 abbrev μ-loop : tie.MeasureT-loop
 μ-loop v first count bytes places i₀ i = count - i
@@ -25,7 +25,7 @@ abbrev μ-loop : tie.MeasureT-loop
 abbrev place : tie.In-loop Inv-loop μ-loop → ℕ
 place c = c .before .before .before .args .first + c .before .loop .i
 
-place-is : (c : tie.In-loop Inv-loop μ-loop) → place c < 64
+place-is : (c : tie.In-loop Inv-loop μ-loop) → place c < nameCount
 place-is c =
     let s = c .before .before .before in
     omega (arith, s .pre)
@@ -87,12 +87,12 @@ place-of-spec =
     Inv-loop
     μ-loop
     (λ c. (omega arith, refl))
-    (λ c. fits-under w64 _ 64 (place-is c) tt)
+    (λ c. fits-under w64 _ nameCount (place-is c) tt)
     (λ c. scaled _ (in-table (place-is c) tt))
     (λ c. in-table (place-is c) tt)
     cast-a
-    (λ c. fits-under w64 _ 64 (place-is c) tt)
-    (λ c. fits-under w64 _ 65 (next-in-table _ (place-is c) tt) tt)
+    (λ c. fits-under w64 _ nameCount (place-is c) tt)
+    (λ c. fits-under w64 _ (nameCount + 1) (next-in-table _ (place-is c) tt) tt)
     (λ c. scaled _ (next-in-table _ (place-is c) tt))
     (λ c. next-in-table _ (place-is c) tt)
     cast-e

@@ -1,4 +1,4 @@
--- `sheet_places::places::form_at` meets its contract.
+-- `sheet_places::places::line_kind_at` meets its contract.
 use Prim.Native.Nat.{ℕ}
 use mathlib.Core.Bool.{Bool, false, _||_}
 use mathlib.Core.Path.{_≡_, sym, _∙_}
@@ -8,9 +8,9 @@ use Rattle.plan.specs.declared.EnginePlan.{EnginePlan}
 use Rattle.plan.specs.declared.Plan.{Plan}
 use Rattle.plan.specs.Ranges.{enginePlans}
 use Rattle.plan.specs.Tests.{inCode}
-use Rattle.asm.specs.Places.{inTable, anyHas, formAt}
-use Rattle.sheet_places.proofs.places.form_at.Statement.{statement}
-use Rattle.sheet_places.proofs.places.form_at.Tie as tie
+use Rattle.asm.specs.Places.{inTable, anyHas, lineKindAt}
+use Rattle.sheet_places.proofs.places.line_kind_at.Statement.{statement}
+use Rattle.sheet_places.proofs.places.line_kind_at.Tie as tie
 
 -- what is asked of three engines is asked of all
 asked : (has : EnginePlan → ℕ → Bool) (p : Plan) (a : ℕ) {r x y z t : Bool} → r ≡ (x || (y || (z || false)))
@@ -32,9 +32,9 @@ table c e =
     let a = c3 .before .before .before .before .before .before .args in
     asked inTable (a .plan) (a .a) (c .any2 .ensures) (c3 .in-table .ensures) (c2 .in-table2 .ensures) (c .before .in-table3 .ensures) e
 
-pub form-at-spec : {M : Type 1} → statement M
-unfolding formAt
-form-at-spec =
+pub line-kind-at-spec : {M : Type 1} → statement M
+unfolding lineKindAt
+line-kind-at-spec =
     tie.close
     (tie.spec
     (search needs)
