@@ -20,7 +20,6 @@ use Rattle.plan.specs.declared.Verdict.the-variants.{Accept}
 use Rattle.plan.specs.Ranges.{enginePlans}
 use Rattle.plan.specs.Tests.{inCode}
 use Rattle.grammar.specs.declared.LineKind.the-variants.{Op, Row, Spare}
-use Rattle.grammar.proofs.Form.{the-type}
 use Rattle.grammar.specs.declared.LineKind.{LineKind}
 use Rattle.grammar.specs.declared.LineKind.the-variants as kind
 use Rattle.grammar.proofs.LineKind.{the-type}

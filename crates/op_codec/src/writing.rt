@@ -1,23 +1,12 @@
 // The line of a code, written whole or not at all.
 use crate::op_line::put_op_line;
+use decoder::decode;
+use decoder::is_undefined;
 use op_lines::WordWritten;
-use word::Word;
 ghost use mathlib.Core.Path.{_≡_};
-ghost use lib.Dec.{eqb};
 ghost use lib.ListN.{length};
 ghost use Rattle.word.specs.Profile.{LP5523};
-ghost use Rattle.word.specs.Table.{encodeOf};
 ghost use Rattle.op_lines.specs.Lines.{disassembleWordOf, bytesAfter};
-
-// Whether a word is the undefined one, for which the encoder gives 13.
-fn is_undefined(i: Word) -> bool
-    ensures { λ r. ⌜ r ≡ eqb (encodeOf LP5523 i .number) 13 ⌝ }
-{
-    if let Word::Undefined = i {
-        return true;
-    }
-    false
-}
 
 // Writes the line of a code without its LF. A refusal leaves the lent bytes as they were. The line is
 // measured on no bytes first.
@@ -25,7 +14,7 @@ pub fn disassemble_word(code: u16, out: &mut [u8]) -> WordWritten
     ensures { λ r. ⌜ r ≡ disassembleWordOf LP5523 code (length (now (out .entry))) ⌝ }
     ensures { λ r. ⌜ now (out .exit) ≡ bytesAfter LP5523 code (now (out .entry)) ⌝ }
 {
-    if is_undefined(decoder::decode(code)) {
+    if is_undefined(decode(code)) {
         return WordWritten::UndefinedWord;
     }
     let mut none = [0u8; 1];

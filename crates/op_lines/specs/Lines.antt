@@ -2,12 +2,13 @@
 use Prim.Native.Nat.{ℕ}
 use mathlib.Core.Bool.{cond}
 use mathlib.Core.List.{List, _++_}
-use lib.Dec.{eqb, leb}
+use lib.Dec.{leb}
 use lib.ListN.{length, drop}
 use Rattle.word.specs.Profile.{Profile}
 use Rattle.word.specs.Answer.{Answer, success, refusal}
 use Rattle.word.specs.Table.{encodeOf}
 use Rattle.word.specs.Decode.{decodeOf}
+use Rattle.word.specs.Classes.{isUndefined}
 use Rattle.grammar.specs.declared.LineKind.the-variants.{Op}
 use Rattle.grammar.specs.Form.{Reading, values, refused}
 use Rattle.grammar.specs.Grammar.{readLine, writeLine}
@@ -39,12 +40,12 @@ answerOf Malformed = refusal 20
 answerOf UnknownOp = refusal 21
 answerOf OutsideField = refusal 22
 
--- What writing the line of a code answers, where there is room for so many bytes: 13 for the undefined case, as the encoder has it, then 24
+-- What writing the line of a code answers, where there is room for so many bytes: 13 for the undefined word, then 24
 -- where the line is longer than the room.
 unfoldable pub disassembleWordOf : Profile → ℕ → ℕ → WordWritten
 disassembleWordOf P w room =
     cond
-    (eqb (encodeOf P (decodeOf P w) .number) 13)
+    (isUndefined (decodeOf P w))
     UndefinedWord
     (cond (leb (length (opLineOf P w)) room) (Length (length (opLineOf P w))) TooShort)
 

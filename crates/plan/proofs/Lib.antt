@@ -1,5 +1,4 @@
 pub mod Laws
-pub mod Later
 pub mod Passes
 pub mod First
 pub mod Tests

@@ -2,3 +2,4 @@ pub mod Fields
 pub mod Bases
 pub mod Rows
 pub mod Theorems
+pub mod Later

@@ -3,7 +3,7 @@ use mathlib.Core.Path.{refl}
 use native.Mathlib.Omega.{arith}
 use Rattle.word.specs.Profile.{LP5523}
 use Rattle.laws.proofs.Matches.{via}
-use Rattle.plan.proofs.Later.{later}
+use Rattle.word.proofs.Later.{later}
 use Rattle.grammar.specs.Tables.{valuesOf}
 use Rattle.op_lines.specs.Values.{opValues, wordValues}
 use Rattle.op_codec.proofs.values.values_of.Statement.{statement}

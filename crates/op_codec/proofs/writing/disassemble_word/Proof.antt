@@ -4,13 +4,11 @@ use mathlib.Core.Bool.{Bool}
 use mathlib.Core.Path.{_≡_, sym, ap, _∙_}
 use native.Mathlib.Omega.{arith}
 use borrow.Author.Needs.{needs}
-use lib.Dec.{eqb}
 use lib.ListN.{length}
 use Rattle.text.proofs.Puts.{put-front}
 use Rattle.word.specs.Profile.{LP5523}
-use Rattle.word.specs.Table.{encodeOf}
 use Rattle.word.specs.Decode.{decodeOf}
-use Rattle.word.specs.declared.Word.{Word}
+use Rattle.word.specs.Classes.{isUndefined}
 use Rattle.op_lines.specs.declared.WordWritten.the-variants.{Length}
 use Rattle.op_lines.specs.Lines.{opLineOf}
 use Rattle.op_lines.proofs.Room.{undefined, no-room, with-room}
@@ -19,8 +17,8 @@ use Rattle.op_codec.proofs.writing.disassemble_word.Tie as tie
 
 -- what was said of the code's word
 said : (c : tie.After-is-undefined) {t : Bool} → c .is-undefined .result ≡ t
-    → eqb (encodeOf LP5523 (decodeOf LP5523 (c .before .before .before .args .code)) .number) 13 ≡ t
-said c e = ap (λ (i : Word). eqb (encodeOf LP5523 i .number) 13) (sym (c .before .decode .ensures)) ∙ sym (c .is-undefined .ensures) ∙ e
+    → isUndefined (decodeOf LP5523 (c .before .before .before .args .code)) ≡ t
+said c e = ap isUndefined (sym (c .before .decode .ensures)) ∙ sym (c .is-undefined .ensures) ∙ e
 
 pub disassemble-word-spec : {M : Type 1} → statement M
 disassemble-word-spec =
