@@ -1,10 +1,8 @@
 // A burst, read from a line of the bench: its first register, then its bytes.
-use crate::cli::numbers::Byte;
-use crate::cli::numbers::Number;
-use crate::cli::numbers::read_byte;
-use crate::cli::numbers::read_number;
 use crate::texts::pieces::SPACE;
 use crate::texts::pieces::after;
+use text::Decimal;
+use text_numbers::read_decimal;
 use text_parts::part_at;
 use text_writing::put_byte;
 
@@ -24,10 +22,10 @@ fn read_bytes(line: &[u8], from: usize, first: u16, bytes: &mut [u8]) -> Burst {
     let mut count: usize = 0;
     let mut at = from;
     while at <= line.len() {
-        match read_byte(part_at(line, at, SPACE)) {
-            Byte::Value(b) => count = put_byte(bytes, count, b),
-            Byte::TooLarge => return Burst::ByteTooLarge,
-            Byte::Malformed => return Burst::Malformed,
+        match read_decimal(part_at(line, at, SPACE), 255) {
+            Decimal::Number(n) => count = put_byte(bytes, count, (n % 256) as u8),
+            Decimal::Outside => return Burst::ByteTooLarge,
+            Decimal::Malformed => return Burst::Malformed,
         }
         at = after(line, at, SPACE);
     }
@@ -36,9 +34,9 @@ fn read_bytes(line: &[u8], from: usize, first: u16, bytes: &mut [u8]) -> Burst {
 
 // The line from the register's place on.
 pub fn read(line: &[u8], at: usize, bytes: &mut [u8]) -> Burst {
-    match read_number(part_at(line, at, SPACE)) {
-        Number::Value(first) => read_bytes(line, after(line, at, SPACE), first, bytes),
-        Number::TooLarge => Burst::RegisterTooLarge,
-        Number::Malformed => Burst::Malformed,
+    match read_decimal(part_at(line, at, SPACE), 65_535) {
+        Decimal::Number(n) => read_bytes(line, after(line, at, SPACE), (n % 65_536) as u16, bytes),
+        Decimal::Outside => Burst::RegisterTooLarge,
+        Decimal::Malformed => Burst::Malformed,
     }
 }

@@ -16,6 +16,8 @@ pub enum Trouble {
     TooLarge,
     // standard input has the commands
     Taken,
+    // standard input was read already
+    Read,
 }
 
 // What one read gives: `count` bytes, none at the end of the file.
@@ -69,6 +71,7 @@ pub fn read(path: &[u8], kind: Kind, buf: &mut [u8]) -> File {
         }
         Kind::Input => read_all(libc::STDIN_FILENO, buf),
         Kind::Taken => File::Unused(Trouble::Taken),
+        Kind::Read => File::Unused(Trouble::Read),
         Kind::TooLong => File::Unused(Trouble::Unreadable),
     }
 }

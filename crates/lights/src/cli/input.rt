@@ -48,17 +48,7 @@ fn look(buf: &[u8], at: usize, end: usize, over: bool, skipping: bool) -> Input
     ensures { λ r. ⌜ (r .at ≤ r .stop) × (r .stop ≤ r .end) × (r .end ≤ length (now (buf .entry))) ⌝ }
 {
     let stop = bytes::scan::find(buf, at, end, LINE_FEED);
-    if stop < end {
-        return Input {
-            at,
-            stop,
-            end,
-            over,
-            skipping: false,
-            found: line_found(true, skipping),
-        };
-    }
-    if !over {
+    if stop == end && !over {
         return Input {
             at,
             stop,
@@ -68,25 +58,22 @@ fn look(buf: &[u8], at: usize, end: usize, over: bool, skipping: bool) -> Input
             found: Found::Nothing,
         };
     }
+    // a line, its end where it is too long, or the end of the input where there is none
+    let found = if skipping {
+        Found::TooLong
+    } else if at < end {
+        Found::Line
+    } else {
+        Found::End
+    };
     Input {
         at,
         stop,
         end,
         over,
         skipping: false,
-        found: line_found(at < end, skipping),
+        found,
     }
-}
-
-// A line, its end where it is too long, or the end of the input where there is none.
-fn line_found(some: bool, skipping: bool) -> Found {
-    if skipping {
-        return Found::TooLong;
-    }
-    if some {
-        return Found::Line;
-    }
-    Found::End
 }
 
 // Moves the bytes from `at` to `end` to the front.

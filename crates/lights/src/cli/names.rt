@@ -18,6 +18,8 @@ pub enum Kind {
     Input,
     // `-`, where standard input has the commands
     Taken,
+    // `-`, after standard input was read
+    Read,
     // longer than any name
     TooLong,
 }
@@ -29,22 +31,22 @@ pub struct Name {
     pub kind: Kind,
 }
 
-fn kind_of(path: &[u8], source: Source) -> Kind {
+fn kind_of(path: &[u8], source: Source, dash: Kind) -> Kind {
     if !same(path, b"-") {
         return Kind::File;
     }
     match source {
-        Source::Program => Kind::Input,
+        Source::Program => dash,
         Source::Line => Kind::Taken,
     }
 }
 
-// Argument k as a name.
-pub fn take(source: Source, line: &[u8], k: usize, bytes: &mut [u8]) -> Name {
+// Argument k as a name; `dash` is what `-` is among the program's arguments.
+pub fn take(source: Source, line: &[u8], k: usize, dash: Kind, bytes: &mut [u8]) -> Name {
     match arguments::take(source, line, k, bytes) {
         Argument::Bytes(length) => Name {
             length,
-            kind: kind_of(until(bytes, length), source),
+            kind: kind_of(until(bytes, length), source, dash),
         },
         Argument::TooLong => Name {
             length: put_bytes(bytes, SHOWN, b".."),

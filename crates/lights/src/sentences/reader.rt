@@ -4,13 +4,14 @@ use super::checker::Origin;
 use super::lines;
 use super::say::Message;
 use super::say::Say;
+use super::say::line_of;
 use super::say::refused;
-use super::say::right;
 use super::say::say_one;
 use super::say::say_only;
 use super::say::say_two;
 use super::shown::quoted;
 use super::templates;
+use crate::cli::status::Status;
 use crate::texts::pieces::LINE_FEED;
 use crate::texts::pieces::after;
 use crate::texts::pieces::nth;
@@ -47,36 +48,13 @@ fn plan_of(text: &[u8]) -> Plan {
     }
 }
 
-// What has to stand in a line: a form and, in the line of a word, its address and the engine that has it.
-struct Expected {
-    form: Form,
-    address: u32,
-    engine: u32,
-}
-
-fn plan_line(form: Form) -> Expected {
-    Expected {
-        form,
-        address: 0,
-        engine: 0,
-    }
-}
-
-// In line n, counted from 0.
-fn expect(text: &[u8], n: u16) -> Expected {
+// The form of line n, counted from 0: the plan lines, then the words.
+fn form_of(n: u16, plan: Plan) -> Form {
     match n {
-        0 => plan_line(Form::Engine1),
-        1 => plan_line(Form::Engine2),
-        2 => plan_line(Form::Engine3),
-        _ => {
-            let plan = plan_of(text);
-            let address = n - 3;
-            Expected {
-                form: sheet_places::form_at(plan, address),
-                address: address as u32,
-                engine: sheet_places::owner_at(plan, address) as u32,
-            }
-        }
+        0 => Form::Engine1,
+        1 => Form::Engine2,
+        2 => Form::Engine3,
+        _ => sheet_places::form_at(plan, n - 3),
     }
 }
 
@@ -86,11 +64,11 @@ fn fault(text: &[u8], n: u16) -> Say {
     if nth_place(text, at + 1, LINE_FEED) > text.len() {
         return say_only(templates::NO_LINE_FEED);
     }
-    let e = expect(text, n);
-    let form = e.form;
+    let plan = plan_of(text);
+    let form = form_of(n, plan);
     let line = nth(text, at, LINE_FEED);
     if lines::is_elsewhere(line, form) {
-        return lines::of_place(form, e.engine, e.address);
+        return lines::of_place(form, plan, n);
     }
     lines::of_line(line, form)
 }
@@ -114,24 +92,19 @@ fn line_count(text: &[u8]) -> u32 {
     let mut at: usize = 0;
     while at < text.len() {
         at = after(text, at, LINE_FEED);
-        n = one_more(n);
+        // no text that is read has more
+        if n < 4_294_967_295 {
+            n += 1;
+        }
     }
     n
-}
-
-// No text that is read has so many lines that the count would stop.
-fn one_more(n: u32) -> u32 {
-    if n == 4_294_967_295 {
-        return n;
-    }
-    n + 1
 }
 
 pub fn of_sheet(text: &[u8], read: Assembled) -> Message {
     let number = sheet_answers::line_report_of(read).number as u32;
     let head = say_one(templates::REFUSED_FILE, number);
     match read {
-        Assembled::Program(_) => right(templates::DONE),
+        Assembled::Program(_) => line_of(Status::Done, templates::NAMED, templates::DONE),
         Assembled::WrongLength => refused(head, say_one(templates::IMAGE_LENGTH, WORDS as u32)),
         Assembled::Malformed { line }
         | Assembled::UnknownOp { line }
@@ -156,14 +129,11 @@ pub fn of_sheet(text: &[u8], read: Assembled) -> Message {
 // A refusal of an op line by itself.
 pub fn of_op_line(line: &[u8], read: WordLine) -> Message {
     let number = sheet_answers::op_line_number_of(read) as u32;
-    match read {
-        WordLine::Code(_) => right(templates::DONE),
-        WordLine::Malformed | WordLine::UnknownOp | WordLine::OutsideField => Message {
-            quote: quoted(op_in(line)),
-            ..refused(
-                say_one(templates::REFUSED, number),
-                lines::of_line(line, Form::Op),
-            )
-        },
+    Message {
+        quote: quoted(op_in(line)),
+        ..refused(
+            say_one(templates::REFUSED, number),
+            lines::of_line(line, Form::Op),
+        )
     }
 }

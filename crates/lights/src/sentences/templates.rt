@@ -4,10 +4,6 @@
 // a command.
 use super::filling::fill;
 use super::say::Say;
-use crate::texts::pieces::nth;
-
-// Stands between two templates.
-const NUL: u8 = 0;
 
 // What stands before a sentence.
 pub const NOTHING: usize = 0;
@@ -303,12 +299,5 @@ word % is outside every engine's code and table, so this line has to be spare=N"
 // A template, filled in.
 pub fn put_say(out: &mut [u8], at: usize, say: Say, quote: &[u8], name: &[u8]) -> usize {
     let numbers = say.numbers;
-    fill(
-        out,
-        at,
-        nth(&TABLE, say.template, NUL),
-        numbers,
-        quote,
-        name,
-    )
+    fill(out, at, &TABLE, say.template, numbers, quote, name)
 }

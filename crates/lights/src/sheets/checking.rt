@@ -4,30 +4,26 @@ use super::reading::Found;
 use super::reading::Program;
 use super::reading::missing;
 use crate::cli::names::Kind;
-use crate::sentences::checker;
+use crate::cli::status::Status;
 use crate::sentences::checker::Origin;
-use crate::sentences::say::right;
+use crate::sentences::checker::of_verdict;
+use crate::sentences::say::line_of;
 use crate::sentences::templates;
-use plan::Plan;
 use plan::Verdict;
-
-fn judged(plan: Plan, image: &[u16]) -> Found {
-    let verdict = plan_check::check(plan, image);
-    let Verdict::Accept = verdict else {
-        return missing(checker::of_verdict(Origin::Sheet, plan, image, verdict));
-    };
-    Found {
-        program: Program::Plan(plan),
-        message: right(templates::ACCEPTED),
-    }
-}
 
 // The program of a file's sheet, where the checker accepts it.
 pub fn accepted(path: &[u8], kind: Kind, image: &mut [u16]) -> Found {
     let found = reading::read(path, kind, image);
     let program = found.program;
-    match program {
-        Program::Plan(plan) => judged(plan, image),
-        Program::Missing => found,
+    let Program::Plan(plan) = program else {
+        return found;
+    };
+    let verdict = plan_check::check(plan, image);
+    let Verdict::Accept = verdict else {
+        return missing(of_verdict(Origin::Sheet, plan, image, verdict));
+    };
+    Found {
+        program,
+        message: line_of(Status::Done, templates::NAMED, templates::ACCEPTED),
     }
 }

@@ -4,15 +4,13 @@ use crate::cli::files::File;
 use crate::cli::files::Trouble;
 use crate::cli::names::Kind;
 use crate::cli::output::ANSWER;
-use crate::cli::output::Channel;
+use crate::cli::output::ERROR;
 use crate::cli::output::made;
 use crate::cli::output::tell_of;
 use crate::cli::status::Status;
 use crate::sentences::reader;
 use crate::sentences::say::Message;
-use crate::sentences::say::failed;
-use crate::sentences::say::malformed;
-use crate::sentences::say::right;
+use crate::sentences::say::line_of;
 use crate::sentences::templates;
 use crate::texts::pieces::until;
 use crate::texts::words::put_words;
@@ -40,21 +38,31 @@ pub fn missing(message: Message) -> Found {
 
 fn assembled(text: &[u8], image: &mut [u16]) -> Found {
     let read = assembler::assemble(text, image);
+    let message = reader::of_sheet(text, read);
     let Assembled::Program(plan) = read else {
-        return missing(reader::of_sheet(text, read));
+        return missing(message);
     };
     Found {
         program: Program::Plan(plan),
-        message: right(templates::DONE),
+        message,
     }
 }
 
 // What is said of a file whose bytes can't be used.
 pub fn unused(trouble: Trouble) -> Message {
     match trouble {
-        Trouble::Unreadable => failed(templates::UNREADABLE),
-        Trouble::TooLarge => failed(templates::TOO_LARGE),
-        Trouble::Taken => malformed(Channel::Error, templates::HAS_COMMANDS),
+        Trouble::Unreadable => line_of(Status::Failed, templates::NAMED, templates::UNREADABLE),
+        Trouble::TooLarge => line_of(Status::Failed, templates::NAMED, templates::TOO_LARGE),
+        Trouble::Taken => line_of(
+            Status::Failed,
+            templates::MALFORMED,
+            templates::HAS_COMMANDS,
+        ),
+        Trouble::Read => line_of(
+            Status::Failed,
+            templates::MALFORMED,
+            templates::READ_ALREADY,
+        ),
     }
 }
 
@@ -81,6 +89,6 @@ pub fn image(path: &[u8], kind: Kind) -> Status {
     let program = found.program;
     match program {
         Program::Plan(_) => write_words(&words),
-        Program::Missing => tell_of(path, found.message),
+        Program::Missing => tell_of(ERROR, path, found.message),
     }
 }

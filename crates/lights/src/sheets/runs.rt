@@ -4,6 +4,7 @@ use super::loading;
 use super::reading::Program;
 use crate::bench::state::put_chip;
 use crate::cli::names::Kind;
+use crate::cli::output::ERROR;
 use crate::cli::output::made;
 use crate::cli::output::tell_of;
 use crate::cli::status::Status;
@@ -13,7 +14,6 @@ use crate::sentences::templates;
 use crate::sentences::templates::put_say;
 use machine::Chip;
 use machine::Outcome;
-use plan::Plan;
 use text_writing::put_byte;
 use word::WORDS;
 
@@ -50,26 +50,23 @@ fn put_view(out: &mut [u8], path: &[u8], m: Chip, span: Span, view: View) -> usi
     }
 }
 
-// A chip with the program loaded and its used engines running free.
-fn viewed(path: &[u8], plan: Plan, image: &[u16; WORDS], span: Span, view: View) -> Status {
-    let mut out = io::large_buffer();
-    let m = loading::freed(loading::loaded(plan, image), plan);
-    let n = put_view(&mut out, path, m, span, view);
-    made(&out, n)
-}
-
+// The used engines of the loaded program run free.
 pub fn run(path: &[u8], kind: Kind, span: Span, view: View) -> Status {
     let mut image = [0u16; WORDS];
     if span.from as u64 + span.beats as u64 > chip::MOST_BEATS as u64 {
         return tell_of(
+            ERROR,
             path,
             calls::of_outcome(templates::REFUSED_FILE, Outcome::TooManyBeats),
         );
     }
     let found = accepted(path, kind, &mut image);
     let program = found.program;
-    match program {
-        Program::Plan(plan) => viewed(path, plan, &image, span, view),
-        Program::Missing => tell_of(path, found.message),
-    }
+    let Program::Plan(plan) = program else {
+        return tell_of(ERROR, path, found.message);
+    };
+    let m = loading::freed(loading::loaded(plan, &image), plan);
+    let mut out = io::large_buffer();
+    let n = put_view(&mut out, path, m, span, view);
+    made(&out, n)
 }

@@ -16,10 +16,10 @@ use crate::sentences::tables::pairs_of;
 use crate::sentences::tables::place_of;
 use crate::sentences::tables::ranges_of;
 use crate::sentences::templates;
+use crate::texts::pieces::EQUALS_SIGN;
 use crate::texts::pieces::SPACE;
 use crate::texts::pieces::after;
 use crate::texts::pieces::ends_in;
-use crate::texts::pieces::key_of;
 use crate::texts::pieces::op_in;
 use crate::texts::pieces::until;
 use grammar::Form;
@@ -52,15 +52,6 @@ fn has_two_spaces(line: &[u8]) -> bool {
     false
 }
 
-fn keys_sentence(pairs: Stretch) -> usize
-    requires { ⌜ pairs .from < pairs .to ⌝ }
-{
-    if pairs.to - pairs.from == 1 {
-        return templates::ONE_KEY;
-    }
-    templates::KEYS
-}
-
 // A line of an op with pairs that is refused though each value is allowed goes up by 0, which its last
 // pair says.
 fn of_known(line: &[u8], op: u32) -> Say {
@@ -70,7 +61,12 @@ fn of_known(line: &[u8], op: u32) -> Say {
     }
     let last = pair_at(pairs.to - 1);
     let most = ranges_of(last.kind).high;
-    let keys = say_two(keys_sentence(pairs), op, op);
+    let template = if pairs.to - pairs.from == 1 {
+        templates::ONE_KEY
+    } else {
+        templates::KEYS
+    };
+    let keys = say_two(template, op, op);
     let none = say_three(templates::UP_BY_ZERO, op, last.key, most);
     fault_of(line, after(line, 0, SPACE), pairs, keys, none)
 }
@@ -88,7 +84,7 @@ fn of_unknown(v: &[u8]) -> Say {
 }
 
 fn of_op(line: &[u8]) -> Say {
-    let key = key_of(line);
+    let key = part_at(line, 0, EQUALS_SIGN);
     if key.len() == line.len() || !same(key, b"op") {
         return say_only(templates::NO_OP_KEY);
     }
@@ -96,7 +92,7 @@ fn of_op(line: &[u8]) -> Say {
     if v.len() == 0 {
         return say_only(templates::NO_OP_VALUE);
     }
-    if key_of(v).len() < v.len() {
+    if part_at(v, 0, EQUALS_SIGN).len() < v.len() {
         return say_only(templates::TWO_SIGNS);
     }
     let op = place_of(v, 0, OPS);
@@ -121,7 +117,37 @@ fn of_single(line: &[u8], key: &[u8], range: usize, shape: usize) -> Say {
     say_only(shape)
 }
 
-fn of_form(line: &[u8], form: Form) -> Say {
+// What is wrong with the line whatever its form; nothing where that is to be judged by its form.
+fn shape_of(line: &[u8]) -> usize {
+    if line.len() == 0 {
+        return templates::EMPTY_LINE;
+    }
+    if ends_in(line, CARRIAGE_RETURN) {
+        return templates::CARRIAGE_RETURN;
+    }
+    if same(until(line, 3), b"\xEF\xBB\xBF") {
+        return templates::BYTE_ORDER_MARK;
+    }
+    if part_at(line, 0, TAB).len() < line.len() {
+        return templates::TAB;
+    }
+    if has_two_spaces(line) {
+        return templates::TWO_SPACES;
+    }
+    if part_at(line, 0, SPACE).len() == 0 {
+        return templates::SPACE_AT_START;
+    }
+    if ends_in(line, SPACE) {
+        return templates::SPACE_AT_END;
+    }
+    templates::NOTHING
+}
+
+pub fn of_line(line: &[u8], form: Form) -> Say {
+    let shape = shape_of(line);
+    if shape != templates::NOTHING {
+        return say_only(shape);
+    }
     match form {
         Form::Op => of_op(line),
         Form::Engine1 => of_plan(line, 1),
@@ -135,29 +161,4 @@ fn of_form(line: &[u8], form: Form) -> Say {
             templates::SPARE_SHAPE,
         ),
     }
-}
-
-pub fn of_line(line: &[u8], form: Form) -> Say {
-    if line.len() == 0 {
-        return say_only(templates::EMPTY_LINE);
-    }
-    if ends_in(line, CARRIAGE_RETURN) {
-        return say_only(templates::CARRIAGE_RETURN);
-    }
-    if same(until(line, 3), b"\xEF\xBB\xBF") {
-        return say_only(templates::BYTE_ORDER_MARK);
-    }
-    if part_at(line, 0, TAB).len() < line.len() {
-        return say_only(templates::TAB);
-    }
-    if has_two_spaces(line) {
-        return say_only(templates::TWO_SPACES);
-    }
-    if part_at(line, 0, SPACE).len() == 0 {
-        return say_only(templates::SPACE_AT_START);
-    }
-    if ends_in(line, SPACE) {
-        return say_only(templates::SPACE_AT_END);
-    }
-    of_form(line, form)
 }

@@ -11,9 +11,9 @@ use crate::sentences::tables::place_of;
 use crate::sentences::tables::ranges_of;
 use crate::sentences::tables::words_of;
 use crate::sentences::templates;
+use crate::texts::pieces::EQUALS_SIGN;
 use crate::texts::pieces::SPACE;
 use crate::texts::pieces::after;
-use crate::texts::pieces::key_of;
 use crate::texts::pieces::value_of;
 use grammar::DECISION;
 use text::Decimal;
@@ -106,7 +106,7 @@ fn judge_number(v: &[u8], r: Ranges) -> Judged {
 }
 
 fn judge_word(v: &[u8], words: Stretch) -> Judged {
-    if key_of(v).len() < v.len() {
+    if part_at(v, 0, EQUALS_SIGN).len() < v.len() {
         return NO_WORD;
     }
     let place = place_of(v, words.from, words.to);
@@ -120,7 +120,7 @@ fn judge_word(v: &[u8], words: Stretch) -> Judged {
 }
 
 fn judge(part: &[u8], pair: Pair) -> Judged {
-    if !is_name(key_of(part), pair.key) {
+    if !is_name(part_at(part, 0, EQUALS_SIGN), pair.key) {
         return OTHER_KEY;
     }
     let v = value_of(part);

@@ -2,9 +2,11 @@
 use crate::sentences::say::Say;
 use crate::sentences::say::say_two;
 use crate::sentences::templates;
-use crate::texts::pieces::key_of;
+use crate::texts::pieces::EQUALS_SIGN;
 use crate::texts::pieces::place_of;
 use grammar::Form;
+use plan::Plan;
+use text_parts::part_at;
 
 // The place of a form's key among those of the words' lines; past the last for the plan lines.
 fn place(form: Form) -> usize {
@@ -18,7 +20,7 @@ fn place(form: Form) -> usize {
 
 // Whether a line begins as the line of a word, but not as one of this form.
 pub fn is_elsewhere(line: &[u8], form: Form) -> bool {
-    let key = key_of(line);
+    let key = part_at(line, 0, EQUALS_SIGN);
     if key.len() == line.len() {
         return false;
     }
@@ -29,15 +31,19 @@ pub fn is_elsewhere(line: &[u8], form: Form) -> bool {
     begins != place(form)
 }
 
-// What belongs where a line stands: at the word with this address, which is code or a row of this engine
-// or neither, by the form; or at an engine's plan line.
-pub fn of_place(form: Form, engine: u32, address: u32) -> Say {
-    match form {
-        Form::Op => say_two(templates::CODE_PLACE, address, engine),
-        Form::Engine1 => say_two(templates::PLAN, 1, 1),
-        Form::Engine2 => say_two(templates::PLAN, 2, 2),
-        Form::Engine3 => say_two(templates::PLAN, 3, 3),
-        Form::Row => say_two(templates::ROW_PLACE, address, engine),
-        Form::Spare => say_two(templates::SPARE_PLACE, address, 0),
+// What belongs where line n stands, counted from 0: by the plan, a word of an engine or of none; or the
+// plan line of an engine.
+pub fn of_place(form: Form, plan: Plan, n: u16) -> Say {
+    if n < 3 {
+        let engine = n as u32 + 1;
+        return say_two(templates::PLAN, engine, engine);
     }
+    let address = n - 3;
+    let engine = sheet_places::owner_at(plan, address) as u32;
+    let template = match form {
+        Form::Row => templates::ROW_PLACE,
+        Form::Spare => templates::SPARE_PLACE,
+        Form::Op | Form::Engine1 | Form::Engine2 | Form::Engine3 => templates::CODE_PLACE,
+    };
+    say_two(template, address as u32, engine)
 }
