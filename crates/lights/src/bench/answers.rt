@@ -1,6 +1,6 @@
 // A line of the bench, answered.
-use super::bursts;
 use super::bursts::Burst;
+use super::bursts::read_bytes;
 use super::state::put_chip;
 use crate::cli::numbers::Number;
 use crate::cli::numbers::TOO_MANY;
@@ -14,18 +14,22 @@ use crate::cli::serving::Mode;
 use crate::cli::serving::Talk;
 use crate::cli::status::Status;
 use crate::sentences::calls;
+use crate::sentences::say::Message;
 use crate::sentences::say::Say;
-use crate::sentences::say::plain;
 use crate::sentences::say::say_only;
 use crate::sentences::say::say_three;
+use crate::sentences::shown::NO_QUOTE;
 use crate::sentences::templates;
 use crate::sheets::reading::write_words;
+use crate::texts::pieces;
 use crate::texts::pieces::SPACE;
 use crate::texts::pieces::from;
 use crate::texts::pieces::place_of;
 use crate::texts::pieces::until;
 use machine::Chip;
 use machine::Outcome;
+use text::Decimal;
+use text_numbers::read_decimal;
 use text_parts::part_at;
 use text_parts::same;
 
@@ -39,7 +43,13 @@ fn after(chip: Chip, status: Status) -> Talk {
 }
 
 fn told(m: Chip, body: Say) -> Talk {
-    after(m, tell(OUTPUT, plain(body)))
+    let message = Message {
+        status: Status::Done,
+        head: say_only(templates::NOTHING),
+        body,
+        quote: NO_QUOTE,
+    };
+    after(m, tell(OUTPUT, message))
 }
 
 fn wrong(m: Chip, template: usize) -> Talk {
@@ -98,14 +108,19 @@ fn written(m: Chip, first: u16, bytes: &[u8]) -> Talk {
     after(chip, made(b"ok\n", 3))
 }
 
+// burst A B B ..: the register stands behind the first space.
 fn burst(m: Chip, line: &[u8]) -> Talk {
     // a line has at most 65535 bytes, so no more numbers than this
     let mut bytes = [0u8; 32768];
-    match bursts::read(line, 6, &mut bytes) {
-        Burst::From(first, n) => written(m, first, until(&bytes, n)),
+    let first = match read_decimal(part_at(line, 6, SPACE), 65_535) {
+        Decimal::Number(n) => (n % 65_536) as u16,
+        Decimal::Outside => return wrong(m, templates::NO_REGISTER),
+        Decimal::Malformed => return wrong(m, templates::NO_BURST),
+    };
+    match read_bytes(line, pieces::after(line, 6, SPACE), &mut bytes) {
+        Burst::Bytes(n) => written(m, first, until(&bytes, n)),
         Burst::Malformed => wrong(m, templates::NO_BURST),
-        Burst::RegisterTooLarge => wrong(m, templates::NO_REGISTER),
-        Burst::ByteTooLarge => wrong(m, templates::NO_BYTE),
+        Burst::TooLarge => wrong(m, templates::NO_BYTE),
     }
 }
 

@@ -38,7 +38,7 @@ outputs=%\0\
 chip enable=% c=% d=% page=%\n\0\
 engine=% mode=% run=% start=% pc=% a=% b=% mask=% \0\
 top=% bottom=% index=% pending=% interrupt=% fault=% midword=% counts=";
-    let none = b"";
+    let none: &[u8] = b"";
     fill(out, at, templates, template, numbers, none, none)
 }
 
@@ -103,10 +103,8 @@ fn put_counts(out: &mut [u8], at: usize, counts: [u8; WORDS]) -> usize {
             template = NEXT_COUNT;
         }
     }
-    if template == COUNT {
-        return put(out, next, NO_COUNT, [0; 8]);
-    }
-    put(out, next, END, [0; 8])
+    let end = if template == COUNT { NO_COUNT } else { END };
+    put(out, next, end, [0; 8])
 }
 
 fn put_engine(out: &mut [u8], at: usize, number: u32, e: Engine) -> usize {
@@ -114,16 +112,6 @@ fn put_engine(out: &mut [u8], at: usize, number: u32, e: Engine) -> usize {
     let set = put(out, at, ENGINE, settings(number, e));
     let placed = put(out, set, POSITION, position(e));
     put_counts(out, placed, counts)
-}
-
-fn put_engines(out: &mut [u8], at: usize, engines: [Engine; 3]) -> usize {
-    let mut next = at;
-    let mut k: u32 = 0;
-    while k < 3 {
-        next = put_engine(out, next, k + 1, engines[k as usize]);
-        k += 1;
-    }
-    next
 }
 
 // D1 to D9, then the GPO.
@@ -154,7 +142,11 @@ pub fn put_chip(out: &mut [u8], at: usize, m: Chip) -> usize {
         0,
         0,
     ];
-    let chip = put(out, at, CHIP, common);
-    let next = put_engines(out, chip, engines);
+    let mut next = put(out, at, CHIP, common);
+    let mut k: u32 = 0;
+    while k < 3 {
+        next = put_engine(out, next, k + 1, engines[k as usize]);
+        k += 1;
+    }
     put_outputs(out, next, outputs)
 }

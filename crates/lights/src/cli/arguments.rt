@@ -20,21 +20,17 @@ pub enum Argument {
     Missing,
 }
 
-fn of_program(k: usize, into: &mut [u8]) -> Argument {
-    if k >= os::arg_count() {
-        return Argument::Missing;
-    }
-    let n = os::arg(k, into);
-    if os::errno() == 0 {
-        return Argument::Bytes(n);
-    }
-    Argument::TooLong
-}
-
 // Argument k, into lent bytes. An empty line has none.
 pub fn take(source: Source, line: &[u8], k: usize, into: &mut [u8]) -> Argument {
     if let Source::Program = source {
-        return of_program(k, into);
+        if k >= os::arg_count() {
+            return Argument::Missing;
+        }
+        let n = os::arg(k, into);
+        if os::errno() == 0 {
+            return Argument::Bytes(n);
+        }
+        return Argument::TooLong;
     }
     if k == 0 {
         return Argument::Missing;

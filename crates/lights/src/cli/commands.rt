@@ -29,8 +29,6 @@ use crate::sheets::ops;
 use crate::sheets::reading;
 use crate::sheets::reading::Program;
 use crate::sheets::runs;
-use crate::sheets::runs::Span;
-use crate::sheets::runs::View;
 use crate::texts::pieces::from;
 use crate::texts::pieces::until;
 use text_writing::put_byte;
@@ -77,29 +75,23 @@ fn decode_all(source: Source, line: &[u8], count: usize) -> Status {
     status
 }
 
-// The arguments after the command's name, each after a space, as far as there is room; the length that
-// they have.
-fn join(out: &mut [u8], source: Source, line: &[u8], count: usize) -> usize {
+// encode op=.. ..: the arguments as one op line.
+fn encode_all(source: Source, line: &[u8], count: usize) -> Status {
     let mut bytes = io::large_buffer();
-    let mut at: usize = 0;
+    let mut joined = io::large_buffer();
+    let mut n: usize = 0;
     let mut k: usize = 2;
     while k < count {
         let argument = arguments::take(source, line, k, &mut bytes);
-        at = put_byte(out, at, b' ');
-        at = put_bytes(out, at, bytes_of(argument, &bytes));
+        n = put_byte(&mut joined, n, b' ');
+        n = put_bytes(&mut joined, n, bytes_of(argument, &bytes));
         k += 1;
     }
-    at
-}
-
-// encode op=.. ..: the arguments as one op line.
-fn encode_all(source: Source, line: &[u8], count: usize) -> Status {
-    let mut op_line = io::large_buffer();
-    let n = join(&mut op_line, source, line, count);
-    if n > op_line.len() {
+    if n > joined.len() {
         return wrong(templates::LONG_OP_LINE);
     }
-    ops::encode(from(until(&op_line, n), 1))
+    // without the space before the first argument
+    ops::encode(from(until(&joined, n), 1))
 }
 
 // Argument k as a number of beats; a picture begins with the first beat where there is none.
@@ -112,8 +104,8 @@ fn take_beats(source: Source, line: &[u8], k: usize) -> Number {
     }
 }
 
-// SHEET BEATS [FROM]
-fn view(source: Source, line: &[u8], path: &[u8], kind: Kind, view: View) -> Status {
+// run, show or svg: SHEET BEATS [FROM]
+fn view(place: usize, source: Source, line: &[u8], path: &[u8], kind: Kind) -> Status {
     let one = take_beats(source, line, 3);
     let two = take_beats(source, line, 4);
     let Number::Value(beats) = one else {
@@ -122,7 +114,7 @@ fn view(source: Source, line: &[u8], path: &[u8], kind: Kind, view: View) -> Sta
     let Number::Value(from) = two else {
         return misread(source, templates::NO_BEATS);
     };
-    runs::run(path, kind, Span { from, beats }, view)
+    runs::run(place, path, kind, from, beats)
 }
 
 // bench SHEET: a chip with a sheet's program, its engines held. Standard input has the bench's commands.
@@ -134,13 +126,13 @@ fn bench(source: Source, line: &[u8]) -> Talk {
     let path = until(&bytes, name.length);
     let found = checking::accepted(path, kind, &mut image);
     let program = found.program;
-    match program {
-        Program::Plan(plan) => Talk {
-            mode: Mode::Bench,
-            chip: loading::loaded(plan, &image),
-            status: Status::Done,
-        },
-        Program::Missing => ended(source, tell_of(ERROR, path, found.message)),
+    let Program::Plan(plan) = program else {
+        return ended(source, tell_of(ERROR, path, found.message));
+    };
+    Talk {
+        mode: Mode::Bench,
+        chip: loading::loaded(plan, &image),
+        status: Status::Done,
     }
 }
 
@@ -153,20 +145,7 @@ fn about_file(place: usize, source: Source, line: &[u8]) -> Status {
     match place {
         help::IMAGE => reading::image(path, kind),
         help::SHEET => images::sheet(source, line, path, kind),
-        help::RUN => view(source, line, path, kind, View::State),
-        help::SHOW => view(source, line, path, kind, View::Picture),
-        _ => view(source, line, path, kind, View::Svg),
-    }
-}
-
-// A command with arguments that asks for no lines.
-fn with_arguments(place: usize, source: Source, line: &[u8], count: usize) -> Status {
-    match place {
-        help::CHECK => check_all(source, line, count),
-        help::DECODE => decode_all(source, line, count),
-        help::ENCODE => encode_all(source, line, count),
-        help::HELP => help::about(source, line),
-        _ => about_file(place, source, line),
+        _ => view(place, source, line, path, kind),
     }
 }
 
@@ -211,7 +190,14 @@ fn by_name(source: Source, line: &[u8], name: &[u8]) -> Talk {
     if place == help::BENCH {
         return bench(source, line);
     }
-    ended(source, with_arguments(place, source, line, count))
+    let status = match place {
+        help::CHECK => check_all(source, line, count),
+        help::DECODE => decode_all(source, line, count),
+        help::ENCODE => encode_all(source, line, count),
+        help::HELP => help::about(source, line),
+        _ => about_file(place, source, line),
+    };
+    ended(source, status)
 }
 
 // The command that the arguments are. No command's name is too long.

@@ -107,10 +107,10 @@ lights --version\n\
 fn put_lines(out: &mut [u8], at: usize, place: usize, count: usize) -> usize
     requires { ⌜ (place < 12) × (count ≤ 3) ⌝ }
 {
-    let lines = LINES;
-    let begin = nth_place(&lines, place * 3, LINE_FEED);
-    let end = nth_place(&lines, place * 3 + count, LINE_FEED);
-    put_bytes(out, at, from(until(&lines, end), begin))
+    let lines: &[u8] = &LINES;
+    let begin = nth_place(lines, place * 3, LINE_FEED);
+    let end = nth_place(lines, place * 3 + count, LINE_FEED);
+    put_bytes(out, at, from(until(lines, end), begin))
 }
 
 // All commands: how each is written, and what it prints.

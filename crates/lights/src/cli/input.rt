@@ -42,6 +42,15 @@ pub const NONE_YET: Input = Input {
     found: Found::Nothing,
 };
 
+const BROKEN: Input = Input {
+    at: 0,
+    stop: 0,
+    end: 0,
+    over: true,
+    skipping: false,
+    found: Found::Broken,
+};
+
 // What the bytes from `at` to `end` begin with.
 fn look(buf: &[u8], at: usize, end: usize, over: bool, skipping: bool) -> Input
     requires { ⌜ (at ≤ end) × (end ≤ length (now buf)) ⌝ }
@@ -138,14 +147,7 @@ fn more(buf: &mut [u8], input: Input) -> Input
     let end = kept.end;
     let got = read_some(libc::STDIN_FILENO, &mut buf[end..]);
     if got.failed {
-        return Input {
-            at: 0,
-            stop: 0,
-            end: 0,
-            over: true,
-            skipping: false,
-            found: Found::Broken,
-        };
+        return BROKEN;
     }
     look(buf, 0, end + got.count, got.count == 0, kept.skipping)
 }

@@ -31,30 +31,23 @@ pub struct Name {
     pub kind: Kind,
 }
 
-fn kind_of(path: &[u8], source: Source, dash: Kind) -> Kind {
-    if !same(path, b"-") {
-        return Kind::File;
-    }
-    match source {
-        Source::Program => dash,
-        Source::Line => Kind::Taken,
-    }
-}
-
-// Argument k as a name; `dash` is what `-` is among the program's arguments.
+// Argument k, which is there, as a name; `dash` is what `-` is among the program's arguments.
 pub fn take(source: Source, line: &[u8], k: usize, dash: Kind, bytes: &mut [u8]) -> Name {
-    match arguments::take(source, line, k, bytes) {
-        Argument::Bytes(length) => Name {
-            length,
-            kind: kind_of(until(bytes, length), source, dash),
-        },
-        Argument::TooLong => Name {
+    let Argument::Bytes(length) = arguments::take(source, line, k, bytes) else {
+        return Name {
             length: put_bytes(bytes, SHOWN, b".."),
             kind: Kind::TooLong,
-        },
-        Argument::Missing => Name {
-            length: 0,
+        };
+    };
+    if !same(until(bytes, length), b"-") {
+        return Name {
+            length,
             kind: Kind::File,
-        },
+        };
     }
+    let kind = match source {
+        Source::Program => dash,
+        Source::Line => Kind::Taken,
+    };
+    Name { length, kind }
 }

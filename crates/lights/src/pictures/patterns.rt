@@ -51,6 +51,6 @@ H1020V%Z\"/>\n\0\
 <text class=\"time\" x=\"1060\" y=\"490\">s</text>\n\0\
 </svg>\n";
     let numbers = [first, second, 0, 0, 0, 0, 0, 0];
-    let none = b"";
+    let none: &[u8] = b"";
     fill(out, at, table, piece, numbers, none, none)
 }

@@ -74,8 +74,9 @@ struct Range {
     last: u32,
 }
 
-fn range_of(q: EnginePlan) -> Range {
-    match q {
+// 14: where the word can step to.
+fn of_stray(engine: u32, q: EnginePlan, address: Address, w: Word) -> Say {
+    let r = match q {
         EnginePlan::Unused => Range { first: 0, last: 0 },
         EnginePlan::Code { first, last }
         | EnginePlan::CodeAndTable {
@@ -87,12 +88,7 @@ fn range_of(q: EnginePlan) -> Range {
             first: first.0 as u32,
             last: last.0 as u32,
         },
-    }
-}
-
-// 14: where the word can step to.
-fn of_stray(engine: u32, q: EnginePlan, address: Address, w: Word) -> Say {
-    let r = range_of(q);
+    };
     match plan_successors::stray_of(q, address.0, plan_successors::flow_of(w)) {
         Stray::Inside => say_three(templates::LEAVES, engine, r.first, r.last),
         Stray::To(to) => Say {

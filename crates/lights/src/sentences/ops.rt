@@ -38,7 +38,7 @@ const ROWS: [u8; 2263] = *b"| op line | beats | effect |\n|---|---|---|\n\
 
 // The table; each of its lines ends with LF.
 pub fn put_ops(out: &mut [u8]) -> usize {
-    let none = b"";
+    let none: &[u8] = b"";
     let mut next = 0;
     let mut op = 0;
     while op < OPS {

@@ -16,7 +16,6 @@ use crate::texts::pieces::LINE_FEED;
 use crate::texts::pieces::after;
 use crate::texts::pieces::nth;
 use crate::texts::pieces::nth_place;
-use crate::texts::pieces::op_in;
 use asm::Assembled;
 use grammar::Form;
 use grammar::LineRead;
@@ -30,10 +29,10 @@ const LAST_ADDRESS: u16 = (WORDS - 1) as u16;
 
 // An engine's plan by its line; unused where the line is refused.
 fn engine_plan(text: &[u8], n: usize, form: Form) -> EnginePlan {
-    match line_reader::read_line(nth(text, n, LINE_FEED), form) {
-        LineRead::Read(v) => assembler::engine_plan(v),
-        LineRead::Refused(_) => EnginePlan::Unused,
-    }
+    let LineRead::Read(v) = line_reader::read_line(nth(text, n, LINE_FEED), form) else {
+        return EnginePlan::Unused;
+    };
+    assembler::engine_plan(v)
 }
 
 // The plan by the first three lines.
@@ -48,16 +47,6 @@ fn plan_of(text: &[u8]) -> Plan {
     }
 }
 
-// The form of line n, counted from 0: the plan lines, then the words.
-fn form_of(n: u16, plan: Plan) -> Form {
-    match n {
-        0 => Form::Engine1,
-        1 => Form::Engine2,
-        2 => Form::Engine3,
-        _ => sheet_places::form_at(plan, n - 3),
-    }
-}
-
 // What stands in the way of line n, counted from 0.
 fn fault(text: &[u8], n: u16) -> Say {
     let at = n as usize;
@@ -65,7 +54,12 @@ fn fault(text: &[u8], n: u16) -> Say {
         return say_only(templates::NO_LINE_FEED);
     }
     let plan = plan_of(text);
-    let form = form_of(n, plan);
+    let form = match n {
+        0 => Form::Engine1,
+        1 => Form::Engine2,
+        2 => Form::Engine3,
+        _ => sheet_places::form_at(plan, n - 3),
+    };
     let line = nth(text, at, LINE_FEED);
     if lines::is_elsewhere(line, form) {
         return lines::of_place(form, plan, n);
@@ -76,13 +70,11 @@ fn fault(text: &[u8], n: u16) -> Say {
 // At a line, counted from 1.
 fn at_line(text: &[u8], line: u16, number: u32) -> Message {
     let n = if line == 0 { 0 } else { line - 1 };
-    let op = op_in(nth(text, n as usize, LINE_FEED));
     Message {
-        quote: quoted(op),
-        ..refused(
-            say_two(templates::REFUSED_LINE, line as u32, number),
-            fault(text, n),
-        )
+        status: Status::Refused,
+        head: say_two(templates::REFUSED_LINE, line as u32, number),
+        body: fault(text, n),
+        quote: quoted(nth(text, n as usize, LINE_FEED)),
     }
 }
 
@@ -130,10 +122,9 @@ pub fn of_sheet(text: &[u8], read: Assembled) -> Message {
 pub fn of_op_line(line: &[u8], read: WordLine) -> Message {
     let number = sheet_answers::op_line_number_of(read) as u32;
     Message {
-        quote: quoted(op_in(line)),
-        ..refused(
-            say_one(templates::REFUSED, number),
-            lines::of_line(line, Form::Op),
-        )
+        status: Status::Refused,
+        head: say_one(templates::REFUSED, number),
+        body: lines::of_line(line, Form::Op),
+        quote: quoted(line),
     }
 }

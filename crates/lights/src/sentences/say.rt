@@ -46,16 +46,6 @@ pub fn say_three(template: usize, a: u32, b: u32, c: u32) -> Say {
     }
 }
 
-// A sentence alone.
-pub fn plain(body: Say) -> Message {
-    Message {
-        status: Status::Done,
-        head: say_only(templates::NOTHING),
-        body,
-        quote: NO_QUOTE,
-    }
-}
-
 // Two templates without numbers.
 pub fn line_of(status: Status, head: usize, sentence: usize) -> Message {
     Message {

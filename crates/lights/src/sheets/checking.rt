@@ -2,7 +2,6 @@
 use super::reading;
 use super::reading::Found;
 use super::reading::Program;
-use super::reading::missing;
 use crate::cli::names::Kind;
 use crate::cli::status::Status;
 use crate::sentences::checker::Origin;
@@ -20,7 +19,10 @@ pub fn accepted(path: &[u8], kind: Kind, image: &mut [u16]) -> Found {
     };
     let verdict = plan_check::check(plan, image);
     let Verdict::Accept = verdict else {
-        return missing(of_verdict(Origin::Sheet, plan, image, verdict));
+        return Found {
+            program: Program::Missing,
+            message: of_verdict(Origin::Sheet, plan, image, verdict),
+        };
     };
     Found {
         program,

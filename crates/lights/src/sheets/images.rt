@@ -3,7 +3,6 @@ ghost use Prim.Native.Nat.{_*_, _+_, _≤_, _<_};
 ghost use lib.ListN.{length};
 use super::plans;
 use super::plans::Planned;
-use super::reading::unused;
 use crate::cli::arguments;
 use crate::cli::arguments::Argument;
 use crate::cli::arguments::Source;
@@ -97,17 +96,19 @@ fn of_file(path: &[u8], kind: Kind, plan: Plan) -> Status {
     let mut buf = io::large_buffer();
     match files::read(path, kind, &mut buf) {
         File::Bytes(n) => of_bytes(path, until(&buf, n), plan),
-        File::Unused(trouble) => tell_of(ERROR, path, unused(trouble)),
+        File::Unused(head, sentence) => {
+            tell_of(ERROR, path, line_of(Status::Failed, head, sentence))
+        }
     }
 }
 
 // Argument k as an engine's plan.
 fn take_plan(source: Source, line: &[u8], k: usize) -> Planned {
     let mut bytes = [0u8; 64];
-    match arguments::take(source, line, k, &mut bytes) {
-        Argument::Bytes(n) => plans::read(until(&bytes, n)),
-        Argument::TooLong | Argument::Missing => Planned::Malformed,
-    }
+    let Argument::Bytes(n) = arguments::take(source, line, k, &mut bytes) else {
+        return Planned::Malformed;
+    };
+    plans::read(until(&bytes, n))
 }
 
 // sheet IMAGE E1 E2 E3

@@ -21,14 +21,10 @@ enum Range {
 // A number that 16 bits don't hold is past every memory, as the greatest of them is: 11.
 const PAST_MEMORY: u32 = 65_535;
 
-// What stands after a byte; no byte where it is missing.
-fn after(argument: &[u8], mark: u8) -> &[u8] {
-    from(argument, part_at(argument, 0, mark).len() + 1)
-}
-
 fn read_range(argument: &[u8]) -> Range {
-    let one = read_number(part_at(argument, 0, b'-'), PAST_MEMORY);
-    let two = read_number(after(argument, b'-'), PAST_MEMORY);
+    let begin = part_at(argument, 0, b'-');
+    let one = read_number(begin, PAST_MEMORY);
+    let two = read_number(from(argument, begin.len() + 1), PAST_MEMORY);
     let Number::Value(first) = one else {
         return Range::Malformed;
     };
@@ -52,7 +48,7 @@ pub fn read(argument: &[u8]) -> Planned {
     if code.len() == argument.len() {
         return Planned::Plan(EnginePlan::Code { first, last });
     }
-    let Range::From(top, bottom) = read_range(after(argument, b'/')) else {
+    let Range::From(top, bottom) = read_range(from(argument, code.len() + 1)) else {
         return Planned::Malformed;
     };
     Planned::Plan(EnginePlan::CodeAndTable {

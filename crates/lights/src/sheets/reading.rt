@@ -1,7 +1,6 @@
 // Sheets from files, read.
 use crate::cli::files;
 use crate::cli::files::File;
-use crate::cli::files::Trouble;
 use crate::cli::names::Kind;
 use crate::cli::output::ANSWER;
 use crate::cli::output::ERROR;
@@ -11,7 +10,6 @@ use crate::cli::status::Status;
 use crate::sentences::reader;
 use crate::sentences::say::Message;
 use crate::sentences::say::line_of;
-use crate::sentences::templates;
 use crate::texts::pieces::until;
 use crate::texts::words::put_words;
 use asm::Assembled;
@@ -29,40 +27,18 @@ pub struct Found {
     pub message: Message,
 }
 
-pub fn missing(message: Message) -> Found {
-    Found {
-        program: Program::Missing,
-        message,
-    }
-}
-
 fn assembled(text: &[u8], image: &mut [u16]) -> Found {
     let read = assembler::assemble(text, image);
     let message = reader::of_sheet(text, read);
     let Assembled::Program(plan) = read else {
-        return missing(message);
+        return Found {
+            program: Program::Missing,
+            message,
+        };
     };
     Found {
         program: Program::Plan(plan),
         message,
-    }
-}
-
-// What is said of a file whose bytes can't be used.
-pub fn unused(trouble: Trouble) -> Message {
-    match trouble {
-        Trouble::Unreadable => line_of(Status::Failed, templates::NAMED, templates::UNREADABLE),
-        Trouble::TooLarge => line_of(Status::Failed, templates::NAMED, templates::TOO_LARGE),
-        Trouble::Taken => line_of(
-            Status::Failed,
-            templates::MALFORMED,
-            templates::HAS_COMMANDS,
-        ),
-        Trouble::Read => line_of(
-            Status::Failed,
-            templates::MALFORMED,
-            templates::READ_ALREADY,
-        ),
     }
 }
 
@@ -71,7 +47,10 @@ pub fn read(path: &[u8], kind: Kind, image: &mut [u16]) -> Found {
     let mut buf = io::large_buffer();
     match files::read(path, kind, &mut buf) {
         File::Bytes(n) => assembled(until(&buf, n), image),
-        File::Unused(trouble) => missing(unused(trouble)),
+        File::Unused(head, sentence) => Found {
+            program: Program::Missing,
+            message: line_of(Status::Failed, head, sentence),
+        },
     }
 }
 
@@ -87,8 +66,8 @@ pub fn image(path: &[u8], kind: Kind) -> Status {
     let mut words = [0u16; WORDS];
     let found = read(path, kind, &mut words);
     let program = found.program;
-    match program {
-        Program::Plan(_) => write_words(&words),
-        Program::Missing => tell_of(ERROR, path, found.message),
+    if let Program::Missing = program {
+        return tell_of(ERROR, path, found.message);
     }
+    write_words(&words)
 }

@@ -77,8 +77,3 @@ pub fn ends_in(s: &[u8], b: u8) -> bool {
     }
     s[s.len() - 1] == b
 }
-
-// What stands after the first key of a line, as `op=`.
-pub fn op_in(line: &[u8]) -> &[u8] {
-    value_of(part_at(line, 0, SPACE))
-}

@@ -20,8 +20,8 @@ use crate::texts::pieces::EQUALS_SIGN;
 use crate::texts::pieces::SPACE;
 use crate::texts::pieces::after;
 use crate::texts::pieces::ends_in;
-use crate::texts::pieces::op_in;
 use crate::texts::pieces::until;
+use crate::texts::pieces::value_of;
 use grammar::Form;
 use text::Decimal;
 use text_numbers::read_decimal;
@@ -88,7 +88,7 @@ fn of_op(line: &[u8]) -> Say {
     if key.len() == line.len() || !same(key, b"op") {
         return say_only(templates::NO_OP_KEY);
     }
-    let v = op_in(line);
+    let v = value_of(part_at(line, 0, SPACE));
     if v.len() == 0 {
         return say_only(templates::NO_OP_VALUE);
     }

@@ -8,16 +8,6 @@ use grammar::Form;
 use plan::Plan;
 use text_parts::part_at;
 
-// The place of a form's key among those of the words' lines; past the last for the plan lines.
-fn place(form: Form) -> usize {
-    match form {
-        Form::Op => 0,
-        Form::Row => 1,
-        Form::Spare => 2,
-        Form::Engine1 | Form::Engine2 | Form::Engine3 => 3,
-    }
-}
-
 // Whether a line begins as the line of a word, but not as one of this form.
 pub fn is_elsewhere(line: &[u8], form: Form) -> bool {
     let key = part_at(line, 0, EQUALS_SIGN);
@@ -28,7 +18,14 @@ pub fn is_elsewhere(line: &[u8], form: Form) -> bool {
     if begins == 3 {
         return false;
     }
-    begins != place(form)
+    // the plan lines have none of these keys
+    let own = match form {
+        Form::Op => 0,
+        Form::Row => 1,
+        Form::Spare => 2,
+        Form::Engine1 | Form::Engine2 | Form::Engine3 => 3,
+    };
+    begins != own
 }
 
 // What belongs where line n stands, counted from 0: by the plan, a word of an engine or of none; or the
