@@ -20,7 +20,7 @@ use crate::texts::pieces::nth_place;
 use crate::texts::pieces::until;
 use text_writing::put_bytes;
 
-// The commands' places in the tables below.
+// The places of the commands in the tables below. That of svg, 7, is nowhere asked for.
 pub const CHECK: usize = 0;
 
 pub const IMAGE: usize = 1;
@@ -45,8 +45,8 @@ pub const VERSION: usize = 11;
 
 pub const COMMANDS: usize = 12;
 
-// The place of a command by its name; past the last for another. Help has two more
-// names, behind those of the commands.
+// The place of a command by its name; past the last for another. Help has two more names, behind those of
+// the commands.
 pub fn place_of(name: &[u8]) -> usize {
     let table = b"check image sheet decode encode run show svg bench - help --version --help -h";
     let place = pieces::place_of(table, name);

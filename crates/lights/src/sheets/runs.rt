@@ -39,7 +39,7 @@ fn put_view(out: &mut [u8], place: usize, path: &[u8], m: Chip, from: u32, beats
     }
 }
 
-// The used engines of the loaded program run free.
+// The command at this place, on a sheet's program whose used engines run free.
 pub fn run(place: usize, path: &[u8], kind: Kind, from: u32, beats: u32) -> Status {
     let mut image = [0u16; WORDS];
     if from as u64 + beats as u64 > chip::MOST_BEATS as u64 {
