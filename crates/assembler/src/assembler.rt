@@ -1,6 +1,6 @@
 // The assembler.
+use super::answers::unended;
 use super::plans::read_plan;
-use super::refusals::unended;
 use super::words::read_word;
 use crate::PlanLine;
 use crate::WordRead;

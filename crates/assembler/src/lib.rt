@@ -1,8 +1,8 @@
 // The assembler: a sheet, read into a lent image. It is proved equal to asm/specs/Reading.antt for every
 // text.
+mod answers;
 mod assembler;
 mod plans;
-mod refusals;
 mod words;
 
 use asm::Assembled;

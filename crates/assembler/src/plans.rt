@@ -1,6 +1,6 @@
 // The plan lines of a sheet, read.
-use super::refusals::refusal_at;
-use super::refusals::unended;
+use super::answers::refusal_at;
+use super::answers::unended;
 use crate::PlanLine;
 use grammar::LineKind;
 use grammar::LineRead;

@@ -1,5 +1,5 @@
 // The word lines of a sheet, read: `part` has the bytes of a line, `line` is its number in the sheet.
-use super::refusals::refusal_at;
+use super::answers::refusal_at;
 use crate::WordRead;
 use asm::Assembled;
 use grammar::LineKind;

@@ -7,8 +7,15 @@ mod sentences;
 mod sheets;
 mod texts;
 
-// The status goes to descriptor 3, where the script takes it up.
+use cli::status::Status;
+
+// The exit status goes to descriptor 3 as a digit, where the script takes it up.
 fn main() {
-    let digit = [cli::status::digit(cli::serving::run())];
-    io::write_all(3, &digit);
+    let digit = match cli::serving::run() {
+        Status::Done => b'0',
+        Status::Refused => b'1',
+        Status::Failed | Status::Lost => b'2',
+    };
+    let digits = [digit];
+    io::write_all(3, &digits);
 }

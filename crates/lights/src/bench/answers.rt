@@ -1,37 +1,66 @@
 // A line of the bench, answered.
-use super::bursts;
 use super::bursts::Burst;
-use super::state::flag;
+use super::bursts::read_bytes;
 use super::state::put_chip;
-use crate::cli::numbers::Beats;
-use crate::cli::numbers::read_beats;
+use crate::cli::numbers::Number;
+use crate::cli::numbers::TOO_MANY;
+use crate::cli::numbers::read_number;
+use crate::cli::output;
 use crate::cli::output::ANSWER;
-use crate::cli::output::Channel;
+use crate::cli::output::OUTPUT;
 use crate::cli::output::made;
 use crate::cli::output::tell;
+use crate::cli::serving::Mode;
+use crate::cli::serving::Talk;
 use crate::cli::status::Status;
 use crate::sentences::calls;
+use crate::sentences::say::Message;
 use crate::sentences::say::Say;
-use crate::sentences::say::malformed;
-use crate::sentences::say::on_output;
-use crate::sentences::say::plain;
 use crate::sentences::say::say_only;
 use crate::sentences::say::say_three;
+use crate::sentences::shown::NO_QUOTE;
 use crate::sentences::templates;
 use crate::sheets::reading::write_words;
+use crate::texts::pieces;
 use crate::texts::pieces::SPACE;
 use crate::texts::pieces::from;
 use crate::texts::pieces::place_of;
 use crate::texts::pieces::until;
 use machine::Chip;
 use machine::Outcome;
+use text::Decimal;
 use text_bytes::part_at;
+use text_bytes::read_decimal;
 use text_bytes::same;
 
-// The chip after a command, and how the command ended.
-pub struct Answered {
-    pub chip: Chip,
-    pub status: Status,
+// The chip after a command of the bench, and how the command ended.
+fn after(chip: Chip, status: Status) -> Talk {
+    Talk {
+        mode: Mode::Bench,
+        chip,
+        status,
+    }
+}
+
+fn told(m: Chip, body: Say) -> Talk {
+    let message = Message {
+        status: Status::Done,
+        head: say_only(templates::NOTHING),
+        body,
+        quote: NO_QUOTE,
+    };
+    after(m, tell(OUTPUT, message))
+}
+
+fn wrong(m: Chip, template: usize) -> Talk {
+    after(m, output::wrong(template))
+}
+
+fn refused(m: Chip, outcome: Outcome) -> Talk {
+    after(
+        m,
+        tell(OUTPUT, calls::of_outcome(templates::REFUSED, outcome)),
+    )
 }
 
 fn digit(b: bool) -> u8 {
@@ -42,17 +71,16 @@ fn digit(b: bool) -> u8 {
 }
 
 // The most frequent answers, those of beats and bursts, are made without a template.
-fn beat_line(pin: bool, ended: [bool; 3]) -> [u8; 18] {
-    let p = digit(pin);
-    let one = digit(ended[0]);
-    let two = digit(ended[1]);
-    let three = digit(ended[2]);
-    [
+fn beat(m: Chip, pulse: bool) -> Talk {
+    let t = chip::tick(m, pulse);
+    let chip = t.chip;
+    let ended = t.ended;
+    let line = [
         b'p',
         b'i',
         b'n',
         b'=',
-        p,
+        digit(t.pin),
         b' ',
         b'w',
         b'o',
@@ -60,75 +88,44 @@ fn beat_line(pin: bool, ended: [bool; 3]) -> [u8; 18] {
         b'd',
         b's',
         b'=',
-        one,
+        digit(ended[0]),
         b',',
-        two,
+        digit(ended[1]),
         b',',
-        three,
+        digit(ended[2]),
         b'\n',
-    ]
+    ];
+    after(chip, made(&line, 18))
 }
 
-fn beat(m: Chip, pulse: bool) -> Answered {
-    let t = chip::tick(m, pulse);
-    let after = t.chip;
-    let ended = t.ended;
-    let line = beat_line(t.pin, ended);
-    Answered {
-        chip: after,
-        status: made(&line, line.len()),
-    }
-}
-
-fn told(m: Chip, body: Say) -> Answered {
-    Answered {
-        chip: m,
-        status: tell(plain(body)),
-    }
-}
-
-fn wrong(m: Chip, template: usize) -> Answered {
-    Answered {
-        chip: m,
-        status: tell(malformed(Channel::Output, template)),
-    }
-}
-
-fn refused(m: Chip, outcome: Outcome) -> Answered {
-    Answered {
-        chip: m,
-        status: tell(on_output(calls::of_outcome(templates::REFUSED, outcome))),
-    }
-}
-
-fn written(m: Chip, first: u16, bytes: &[u8]) -> Answered {
+fn written(m: Chip, first: u16, bytes: &[u8]) -> Talk {
     let w = chip::burst(m, first, bytes);
     let outcome = w.outcome;
     let chip = w.chip;
     let Outcome::Success = outcome else {
         return refused(chip, outcome);
     };
-    let line = b"ok\n";
-    Answered {
-        chip,
-        status: made(line, line.len()),
-    }
+    after(chip, made(b"ok\n", 3))
 }
 
-// `at`: where the register stands.
-fn burst(m: Chip, line: &[u8], at: usize) -> Answered {
+// burst A B B ..: the register stands behind the first space.
+fn burst(m: Chip, line: &[u8]) -> Talk {
     // a line has at most 65535 bytes, so no more numbers than this
     let mut bytes = [0u8; 32768];
-    match bursts::read(line, at, &mut bytes) {
-        Burst::From(first, n) => written(m, first, until(&bytes, n)),
+    let first = match read_decimal(part_at(line, 6, SPACE), 65_535) {
+        Decimal::Number(n) => (n % 65_536) as u16,
+        Decimal::Outside => return wrong(m, templates::NO_REGISTER),
+        Decimal::Malformed => return wrong(m, templates::NO_BURST),
+    };
+    match read_bytes(line, pieces::after(line, 6, SPACE), &mut bytes) {
+        Burst::Bytes(n) => written(m, first, until(&bytes, n)),
         Burst::Malformed => wrong(m, templates::NO_BURST),
-        Burst::RegisterTooLarge => wrong(m, templates::NO_REGISTER),
-        Burst::ByteTooLarge => wrong(m, templates::NO_BYTE),
+        Burst::TooLarge => wrong(m, templates::NO_BYTE),
     }
 }
 
-fn run(m: Chip, number: &[u8]) -> Answered {
-    let Beats::Number(beats) = read_beats(number) else {
+fn run(m: Chip, number: &[u8]) -> Talk {
+    let Number::Value(beats) = read_number(number, TOO_MANY) else {
         return wrong(m, templates::NO_RUN);
     };
     let r = chip::run(m, beats);
@@ -141,85 +138,62 @@ fn run(m: Chip, number: &[u8]) -> Answered {
     told(chip, calls::counts(r.beats, words, false))
 }
 
-fn interrupts(m: Chip) -> Answered {
+fn interrupts(m: Chip) -> Talk {
     let r = chip::read_interrupts(m);
     let chip = r.chip;
-    let flags = say_three(
-        templates::INTERRUPTS,
-        flag(r.flags[0]),
-        flag(r.flags[1]),
-        flag(r.flags[2]),
-    );
-    told(chip, flags)
+    let flags = r.flags;
+    let one = flags[0] as u32;
+    let two = flags[1] as u32;
+    let three = flags[2] as u32;
+    told(chip, say_three(templates::INTERRUPTS, one, two, three))
 }
 
-fn state(m: Chip) -> Answered {
+fn state(m: Chip) -> Talk {
     let mut out = [0u8; ANSWER];
     let n = put_chip(&mut out, 0, m);
-    Answered {
-        chip: m,
-        status: made(&out, n),
-    }
+    after(m, made(&out, n))
 }
 
-fn memory(m: Chip) -> Answered {
+fn memory(m: Chip) -> Talk {
     let words = m.memory;
-    Answered {
-        chip: m,
-        status: write_words(&words),
-    }
+    after(m, write_words(&words))
 }
 
-// What a line asks for.
-enum Asked {
-    Burst,
-    Run,
-    Interrupts,
-    State,
-    Memory,
-    Help,
-    // a command that stands alone, or beat, with something else behind it
-    Misused,
-    Unknown,
-}
+// The places of the commands in their table. Those after the second stand alone.
+const BURST: usize = 0;
 
-// By the line's first part; `alone`: it is the whole line.
-fn read_line(name: &[u8], alone: bool) -> Asked {
-    let k = place_of(b"burst run interrupts state memory help beat", name);
-    if !alone && k > 1 {
-        if k < 7 {
-            return Asked::Misused;
-        }
-        return Asked::Unknown;
-    }
-    match k {
-        0 => Asked::Burst,
-        1 => Asked::Run,
-        2 => Asked::Interrupts,
-        3 => Asked::State,
-        4 => Asked::Memory,
-        5 => Asked::Help,
-        _ => Asked::Unknown,
-    }
-}
+const RUN: usize = 1;
+
+const INTERRUPTS: usize = 2;
+
+const STATE: usize = 3;
+
+const MEMORY: usize = 4;
+
+const HELP: usize = 5;
+
+const COMMANDS: usize = 7;
 
 // Every line but those of beats.
-fn other(m: Chip, line: &[u8]) -> Answered {
+fn other(m: Chip, line: &[u8]) -> Talk {
     let name = part_at(line, 0, SPACE);
-    match read_line(name, name.len() == line.len()) {
-        Asked::Burst => burst(m, line, 6),
-        Asked::Run => run(m, from(line, 4)),
-        Asked::Interrupts => interrupts(m),
-        Asked::State => state(m),
-        Asked::Memory => memory(m),
-        Asked::Help => told(m, say_only(templates::BENCH_HELP)),
-        Asked::Misused => wrong(m, templates::NOTHING_BEHIND),
-        Asked::Unknown => wrong(m, templates::NO_BENCH_COMMAND),
+    let place = place_of(b"burst run interrupts state memory help beat", name);
+    if place > RUN && place < COMMANDS && name.len() < line.len() {
+        return wrong(m, templates::NOTHING_BEHIND);
+    }
+    match place {
+        BURST => burst(m, line),
+        RUN => run(m, from(line, 4)),
+        INTERRUPTS => interrupts(m),
+        STATE => state(m),
+        MEMORY => memory(m),
+        HELP => told(m, say_only(templates::BENCH_HELP)),
+        _ => wrong(m, templates::NO_BENCH_COMMAND),
     }
 }
 
 // One line's command on a chip.
-pub fn answer(m: Chip, line: &[u8]) -> Answered {
+pub fn answer(m: Chip, line: &[u8]) -> Talk {
     if same(line, b"beat") {
         return beat(m, false);
     }

@@ -3,6 +3,7 @@
 use crate::texts::pieces::SPACE;
 use crate::texts::pieces::after;
 use crate::texts::pieces::nth_place;
+use crate::texts::pieces::until;
 use text_bytes::part_at;
 use text_bytes::put_bytes;
 
@@ -19,19 +20,18 @@ pub enum Argument {
     Missing,
 }
 
-fn of_program(k: usize, into: &mut [u8]) -> Argument {
-    if k >= os::arg_count() {
-        return Argument::Missing;
+// Argument k, into lent bytes. An empty line has none.
+pub fn take(source: Source, line: &[u8], k: usize, into: &mut [u8]) -> Argument {
+    if let Source::Program = source {
+        if k >= os::arg_count() {
+            return Argument::Missing;
+        }
+        let n = os::arg(k, into);
+        if os::errno() == 0 {
+            return Argument::Bytes(n);
+        }
+        return Argument::TooLong;
     }
-    let n = os::arg(k, into);
-    if os::errno() == 0 {
-        return Argument::Bytes(n);
-    }
-    Argument::TooLong
-}
-
-// An empty line has no argument.
-fn of_line(line: &[u8], k: usize, into: &mut [u8]) -> Argument {
     if k == 0 {
         return Argument::Missing;
     }
@@ -46,15 +46,20 @@ fn of_line(line: &[u8], k: usize, into: &mut [u8]) -> Argument {
     Argument::TooLong
 }
 
-// Argument k, into lent bytes.
-pub fn take(source: Source, line: &[u8], k: usize, into: &mut [u8]) -> Argument {
-    match source {
-        Source::Program => of_program(k, into),
-        Source::Line => of_line(line, k, into),
+// An argument's bytes, or as many of them as are there.
+pub fn bytes_of(argument: Argument, bytes: &[u8]) -> &[u8] {
+    match argument {
+        Argument::Bytes(n) => until(bytes, n),
+        Argument::TooLong => bytes,
+        Argument::Missing => until(bytes, 0),
     }
 }
 
-fn count_of_line(line: &[u8]) -> usize {
+// One more than the number of the last argument.
+pub fn count(source: Source, line: &[u8]) -> usize {
+    if let Source::Program = source {
+        return os::arg_count();
+    }
     if line.len() == 0 {
         return 1;
     }
@@ -65,12 +70,4 @@ fn count_of_line(line: &[u8]) -> usize {
         n += 1;
     }
     n
-}
-
-// One more than the number of the last argument.
-pub fn count(source: Source, line: &[u8]) -> usize {
-    match source {
-        Source::Program => os::arg_count(),
-        Source::Line => count_of_line(line),
-    }
 }

@@ -2,27 +2,25 @@
 use super::arguments;
 use super::arguments::Argument;
 use super::arguments::Source;
+use super::arguments::bytes_of;
 use super::help;
-use super::help::Command;
 use super::names;
 use super::names::Kind;
 use super::names::LONGEST;
-use super::numbers::Beats;
-use super::numbers::read_beats;
-use super::output::Channel;
-use super::output::tell;
+use super::numbers::Number;
+use super::numbers::TOO_MANY;
+use super::numbers::read_number;
+use super::output::ERROR;
+use super::output::OUTPUT;
+use super::output::misread;
 use super::output::tell_of;
+use super::output::tell_only;
+use super::output::wrong;
 use super::serving::Mode;
 use super::serving::Talk;
-use super::serving::begun;
 use super::serving::ended;
 use super::status::Status;
-use super::status::is_lost;
 use super::status::worse;
-use crate::sentences::say::malformed;
-use crate::sentences::say::on_output;
-use crate::sentences::say::plain;
-use crate::sentences::say::say_only;
 use crate::sentences::templates;
 use crate::sheets::checking;
 use crate::sheets::images;
@@ -31,76 +29,34 @@ use crate::sheets::ops;
 use crate::sheets::reading;
 use crate::sheets::reading::Program;
 use crate::sheets::runs;
-use crate::sheets::runs::Span;
-use crate::sheets::runs::View;
-use crate::texts::pieces::SPACE;
 use crate::texts::pieces::from;
-use crate::texts::pieces::nth_place;
 use crate::texts::pieces::until;
 use text_bytes::put_byte;
 use text_bytes::put_bytes;
 use word::WORDS;
 
-// Where a line about a command goes that can't be understood: the lines of standard input get their
-// answers on standard output.
-pub fn channel(source: Source) -> Channel {
-    match source {
-        Source::Program => Channel::Error,
-        Source::Line => Channel::Output,
-    }
-}
-
-fn say_it(template: usize) -> Status {
-    tell(plain(say_only(template)))
-}
-
-// A line about a command that can't be understood.
-fn misread(to: Channel, template: usize) -> Status {
-    tell(malformed(to, template))
-}
-
-fn is_input(kind: Kind) -> bool {
-    match kind {
-        Kind::Input => true,
-        Kind::File | Kind::Taken | Kind::TooLong => false,
-    }
-}
-
 // check SHEET..: standard input is read once.
 fn check_all(source: Source, line: &[u8], count: usize) -> Status {
     let mut bytes = [0u8; LONGEST];
+    let mut image = [0u16; WORDS];
     let mut status = Status::Done;
-    let mut read = false;
+    let mut dash = Kind::Input;
     let mut k: usize = 2;
     while k < count {
-        let name = names::take(source, line, k, &mut bytes);
+        let name = names::take(source, line, k, dash, &mut bytes);
         let kind = name.kind;
-        status = worse(status, check_one(until(&bytes, name.length), kind, read));
-        if is_lost(status) {
+        let path = until(&bytes, name.length);
+        let found = checking::accepted(path, kind, &mut image);
+        status = worse(status, tell_of(OUTPUT, path, found.message));
+        if let Status::Lost = status {
             return status;
         }
-        read = read || is_input(kind);
         k += 1;
+        if let Kind::Input = kind {
+            dash = Kind::Read;
+        }
     }
     status
-}
-
-fn check_one(path: &[u8], kind: Kind, read: bool) -> Status {
-    if read && is_input(kind) {
-        return misread(Channel::Output, templates::READ_ALREADY);
-    }
-    let mut image = [0u16; WORDS];
-    let found = checking::accepted(path, kind, &mut image);
-    tell_of(path, on_output(found.message))
-}
-
-// An argument's bytes, or as many of them as are there.
-fn bytes_of(argument: Argument, bytes: &[u8]) -> &[u8] {
-    match argument {
-        Argument::Bytes(n) => until(bytes, n),
-        Argument::TooLong => bytes,
-        Argument::Missing => until(bytes, 0),
-    }
 }
 
 // decode WORD..
@@ -111,7 +67,7 @@ fn decode_all(source: Source, line: &[u8], count: usize) -> Status {
     while k < count {
         let argument = arguments::take(source, line, k, &mut bytes);
         status = worse(status, ops::decode(bytes_of(argument, &bytes)));
-        if is_lost(status) {
+        if let Status::Lost = status {
             return status;
         }
         k += 1;
@@ -119,140 +75,102 @@ fn decode_all(source: Source, line: &[u8], count: usize) -> Status {
     status
 }
 
-// The program's arguments after the command's name, each after a space, as far as there is room; the
-// length that they have.
-fn join(out: &mut [u8], count: usize) -> usize {
-    let mut bytes = io::large_buffer();
-    let mut at: usize = 0;
-    let mut k: usize = 2;
-    while k < count {
-        let argument = arguments::take(Source::Program, b"", k, &mut bytes);
-        at = put_byte(out, at, b' ');
-        at = put_bytes(out, at, bytes_of(argument, &bytes));
-        k += 1;
-    }
-    at
-}
-
-fn encode_program(count: usize) -> Status {
-    let mut line = io::large_buffer();
-    let n = join(&mut line, count);
-    if n > line.len() {
-        return misread(Channel::Output, templates::LONG_OP_LINE);
-    }
-    ops::encode(from(until(&line, n), 1))
-}
-
 // encode op=.. ..: the arguments as one op line.
 fn encode_all(source: Source, line: &[u8], count: usize) -> Status {
-    match source {
-        Source::Program => encode_program(count),
-        Source::Line => ops::encode(from(line, nth_place(line, 1, SPACE))),
+    let mut bytes = io::large_buffer();
+    let mut joined = io::large_buffer();
+    let mut n: usize = 0;
+    let mut k: usize = 2;
+    while k < count {
+        let argument = arguments::take(source, line, k, &mut bytes);
+        n = put_byte(&mut joined, n, b' ');
+        n = put_bytes(&mut joined, n, bytes_of(argument, &bytes));
+        k += 1;
     }
+    if n > joined.len() {
+        return wrong(templates::LONG_OP_LINE);
+    }
+    // without the space before the first argument
+    ops::encode(from(until(&joined, n), 1))
 }
 
 // Argument k as a number of beats; a picture begins with the first beat where there is none.
-fn take_beats(source: Source, line: &[u8], k: usize) -> Beats {
+fn take_beats(source: Source, line: &[u8], k: usize) -> Number {
     let mut bytes = io::large_buffer();
     match arguments::take(source, line, k, &mut bytes) {
-        Argument::Bytes(n) => read_beats(until(&bytes, n)),
-        Argument::TooLong => Beats::Malformed,
-        Argument::Missing => Beats::Number(0),
+        Argument::Bytes(n) => read_number(until(&bytes, n), TOO_MANY),
+        Argument::TooLong => Number::Malformed,
+        Argument::Missing => Number::Value(0),
     }
 }
 
-// SHEET BEATS [FROM]
-fn view(source: Source, line: &[u8], path: &[u8], kind: Kind, view: View) -> Status {
+// run, show or svg: SHEET BEATS [FROM]
+fn view(place: usize, source: Source, line: &[u8], path: &[u8], kind: Kind) -> Status {
     let one = take_beats(source, line, 3);
     let two = take_beats(source, line, 4);
-    let Beats::Number(beats) = one else {
-        return misread(channel(source), templates::NO_BEATS);
+    let Number::Value(beats) = one else {
+        return misread(source, templates::NO_BEATS);
     };
-    let Beats::Number(from) = two else {
-        return misread(channel(source), templates::NO_BEATS);
+    let Number::Value(from) = two else {
+        return misread(source, templates::NO_BEATS);
     };
-    runs::run(path, kind, Span { from, beats }, view)
+    runs::run(place, path, kind, from, beats)
 }
 
-// help [COMMAND]
-fn help_about(source: Source, line: &[u8]) -> Status {
+// bench SHEET: a chip with a sheet's program, its engines held. Standard input has the bench's commands.
+fn bench(source: Source, line: &[u8]) -> Talk {
     let mut bytes = [0u8; LONGEST];
-    let argument = arguments::take(source, line, 2, &mut bytes);
-    if let Argument::Missing = argument {
-        return help::full();
-    }
-    help::about(channel(source), bytes_of(argument, &bytes))
-}
-
-// Standard input has the bench's commands.
-fn not_input(kind: Kind) -> Kind {
-    match kind {
-        Kind::Input => Kind::Taken,
-        Kind::File | Kind::Taken | Kind::TooLong => kind,
-    }
-}
-
-// A chip with a sheet's program, its engines held.
-fn loaded(path: &[u8], kind: Kind) -> Talk {
     let mut image = [0u16; WORDS];
+    let name = names::take(source, line, 2, Kind::Taken, &mut bytes);
+    let kind = name.kind;
+    let path = until(&bytes, name.length);
     let found = checking::accepted(path, kind, &mut image);
     let program = found.program;
-    match program {
-        Program::Plan(plan) => begun(Mode::Bench, loading::loaded(plan, &image)),
-        Program::Missing => ended(tell_of(path, found.message)),
+    let Program::Plan(plan) = program else {
+        return ended(source, tell_of(ERROR, path, found.message));
+    };
+    Talk {
+        mode: Mode::Bench,
+        chip: loading::loaded(plan, &image),
+        status: Status::Done,
     }
 }
 
 // A command about the file that its first argument names.
-fn about_file(command: Command, source: Source, line: &[u8]) -> Talk {
+fn about_file(place: usize, source: Source, line: &[u8]) -> Status {
     let mut bytes = [0u8; LONGEST];
-    let name = names::take(source, line, 2, &mut bytes);
+    let name = names::take(source, line, 2, Kind::Input, &mut bytes);
     let kind = name.kind;
     let path = until(&bytes, name.length);
-    match command {
-        Command::Image => ended(reading::image(path, kind)),
-        Command::Sheet => ended(images::sheet(source, line, path, kind)),
-        Command::Run => ended(view(source, line, path, kind, View::State)),
-        Command::Show => ended(view(source, line, path, kind, View::Picture)),
-        Command::Svg => ended(view(source, line, path, kind, View::Svg)),
-        Command::Bench => loaded(path, not_input(kind)),
-        // about no file, or about several
-        Command::Check | Command::Decode | Command::Encode => ended(help::full()),
-        Command::Several | Command::Help | Command::Version => ended(help::full()),
+    match place {
+        help::IMAGE => reading::image(path, kind),
+        help::SHEET => images::sheet(source, line, path, kind),
+        _ => view(place, source, line, path, kind),
     }
 }
 
 // A command that asks for lines, with a new chip.
 fn lines(mode: Mode) -> Talk {
-    begun(mode, chip::new_chip())
-}
-
-// A command with arguments, as many as it takes.
-fn with_arguments(command: Command, source: Source, line: &[u8], count: usize) -> Talk {
-    match command {
-        Command::Check => ended(check_all(source, line, count)),
-        Command::Decode => ended(decode_all(source, line, count)),
-        Command::Encode => ended(encode_all(source, line, count)),
-        Command::Image | Command::Sheet | Command::Bench => about_file(command, source, line),
-        Command::Run | Command::Show | Command::Svg => about_file(command, source, line),
-        Command::Several | Command::Help | Command::Version => ended(help_about(source, line)),
+    Talk {
+        mode,
+        chip: chip::new_chip(),
+        status: Status::Done,
     }
 }
 
 // A command without arguments.
-fn without(command: Command, source: Source) -> Talk {
-    match command {
-        Command::Decode => lines(Mode::Decode),
-        Command::Encode => lines(Mode::Encode),
-        Command::Bench => lines(Mode::Bench),
+fn without(place: usize, source: Source) -> Talk {
+    match place {
+        help::DECODE => lines(Mode::Decode),
+        help::ENCODE => lines(Mode::Encode),
+        help::BENCH => lines(Mode::Bench),
         // not among such lines
-        Command::Several => match source {
+        help::SEVERAL => match source {
             Source::Program => lines(Mode::Commands),
-            Source::Line => ended(misread(Channel::Output, templates::COMMANDS_ALREADY)),
+            Source::Line => ended(source, wrong(templates::COMMANDS_ALREADY)),
         },
-        Command::Version => ended(say_it(templates::VERSION)),
-        Command::Check | Command::Image | Command::Sheet => ended(help::full()),
-        Command::Run | Command::Show | Command::Svg | Command::Help => ended(help::full()),
+        help::VERSION => ended(source, tell_only(templates::VERSION)),
+        _ => ended(source, help::full()),
     }
 }
 
@@ -260,16 +178,26 @@ fn without(command: Command, source: Source) -> Talk {
 fn by_name(source: Source, line: &[u8], name: &[u8]) -> Talk {
     let place = help::place_of(name);
     if place >= help::COMMANDS {
-        return ended(help::unknown(channel(source), name));
+        return ended(source, help::unknown(source, name));
     }
     let count = arguments::count(source, line);
-    if !help::takes(place, count) {
-        return ended(help::misused(channel(source), place));
+    if count < help::LEAST[place] || count > help::MOST[place] {
+        return ended(source, help::misused(source, place));
     }
     if count == 2 {
-        return without(help::command_at(place), source);
+        return without(place, source);
     }
-    with_arguments(help::command_at(place), source, line, count)
+    if place == help::BENCH {
+        return bench(source, line);
+    }
+    let status = match place {
+        help::CHECK => check_all(source, line, count),
+        help::DECODE => decode_all(source, line, count),
+        help::ENCODE => encode_all(source, line, count),
+        help::HELP => help::about(source, line),
+        _ => about_file(place, source, line),
+    };
+    ended(source, status)
 }
 
 // The command that the arguments are. No command's name is too long.
@@ -277,7 +205,7 @@ pub fn command(source: Source, line: &[u8]) -> Talk {
     let mut bytes = [0u8; LONGEST];
     match arguments::take(source, line, 1, &mut bytes) {
         Argument::Bytes(n) => by_name(source, line, until(&bytes, n)),
-        Argument::TooLong => ended(help::unknown(channel(source), until(&bytes, 40))),
-        Argument::Missing => ended(say_it(templates::BRIEF)),
+        Argument::TooLong => ended(source, help::unknown(source, until(&bytes, 40))),
+        Argument::Missing => ended(source, tell_only(templates::BRIEF)),
     }
 }

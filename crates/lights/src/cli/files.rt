@@ -3,19 +3,12 @@ ghost use Prim.Native.Nat.{_≤_};
 ghost use lib.ListN.{length};
 ghost use mathlib.Core.Path.{_≡_};
 use super::names::Kind;
+use crate::sentences::templates;
 
 pub enum File {
     Bytes(usize),
-    Unused(Trouble),
-}
-
-// Why a file's bytes can't be used.
-pub enum Trouble {
-    Unreadable,
-    // it fills the lent bytes
-    TooLarge,
-    // standard input has the commands
-    Taken,
+    // the bytes can't be used: the two templates of the line that says why
+    Unused(usize, usize),
 }
 
 // What one read gives: `count` bytes, none at the end of the file.
@@ -46,14 +39,15 @@ fn read_all(fd: i32, buf: &mut [u8]) -> File {
     while done < buf.len() {
         let got = read_some(fd, &mut buf[done..]);
         if got.failed {
-            return File::Unused(Trouble::Unreadable);
+            return File::Unused(templates::NAMED, templates::UNREADABLE);
         }
         if got.count == 0 {
             return File::Bytes(done);
         }
         done += got.count;
     }
-    File::Unused(Trouble::TooLarge)
+    // it fills the lent bytes
+    File::Unused(templates::NAMED, templates::TOO_LARGE)
 }
 
 pub fn read(path: &[u8], kind: Kind, buf: &mut [u8]) -> File {
@@ -61,14 +55,15 @@ pub fn read(path: &[u8], kind: Kind, buf: &mut [u8]) -> File {
         Kind::File => {
             let fd = os::open_read(path);
             if fd < 0 {
-                return File::Unused(Trouble::Unreadable);
+                return File::Unused(templates::NAMED, templates::UNREADABLE);
             }
             let file = read_all(fd, buf);
             libc::close(fd);
             file
         }
         Kind::Input => read_all(libc::STDIN_FILENO, buf),
-        Kind::Taken => File::Unused(Trouble::Taken),
-        Kind::TooLong => File::Unused(Trouble::Unreadable),
+        Kind::Taken => File::Unused(templates::MALFORMED, templates::HAS_COMMANDS),
+        Kind::Read => File::Unused(templates::MALFORMED, templates::READ_ALREADY),
+        Kind::TooLong => File::Unused(templates::NAMED, templates::UNREADABLE),
     }
 }

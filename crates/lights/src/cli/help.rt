@@ -1,64 +1,58 @@
 // What the program can be asked.
-ghost use Prim.Native.Nat.{_<_};
+ghost use Prim.Native.Nat.{_<_, _≤_};
+use super::arguments;
+use super::arguments::Source;
+use super::arguments::bytes_of;
+use super::names::LONGEST;
 use super::output::ANSWER;
-use super::output::Channel;
+use super::output::channel_of;
 use super::output::made;
 use super::output::tell_of;
 use super::output::write;
 use super::status::Status;
 use crate::sentences::ops::put_ops;
-use crate::sentences::say::malformed;
+use crate::sentences::say::line_of;
 use crate::sentences::templates;
 use crate::texts::pieces;
 use crate::texts::pieces::LINE_FEED;
-use crate::texts::pieces::nth;
-use text_bytes::put_byte;
+use crate::texts::pieces::from;
+use crate::texts::pieces::nth_place;
+use crate::texts::pieces::until;
 use text_bytes::put_bytes;
 
-pub enum Command {
-    Check,
-    Image,
-    Sheet,
-    Decode,
-    Encode,
-    Run,
-    Show,
-    Svg,
-    Bench,
-    Several,
-    Help,
-    Version,
-}
+// The places of the commands in the tables below. That of svg, 7, is nowhere asked for.
+pub const CHECK: usize = 0;
+
+pub const IMAGE: usize = 1;
+
+pub const SHEET: usize = 2;
+
+pub const DECODE: usize = 3;
+
+pub const ENCODE: usize = 4;
+
+pub const RUN: usize = 5;
+
+pub const SHOW: usize = 6;
+
+pub const BENCH: usize = 8;
+
+pub const SEVERAL: usize = 9;
+
+pub const HELP: usize = 10;
+
+pub const VERSION: usize = 11;
 
 pub const COMMANDS: usize = 12;
 
-const HELP: usize = 10;
-
-// The place of a command in the tables below, by its name; past the last for another. Help has two more
-// names, behind those of the commands.
+// The place of a command by its name; past the last for another. Help has two more names, behind those of
+// the commands.
 pub fn place_of(name: &[u8]) -> usize {
     let table = b"check image sheet decode encode run show svg bench - help --version --help -h";
     let place = pieces::place_of(table, name);
-    if place == 12 || place == 13 {
-        return HELP;
-    }
-    place
-}
-
-pub fn command_at(place: usize) -> Command {
     match place {
-        0 => Command::Check,
-        1 => Command::Image,
-        2 => Command::Sheet,
-        3 => Command::Decode,
-        4 => Command::Encode,
-        5 => Command::Run,
-        6 => Command::Show,
-        7 => Command::Svg,
-        8 => Command::Bench,
-        9 => Command::Several,
-        HELP => Command::Help,
-        _ => Command::Version,
+        12 | 13 => HELP,
+        _ => place,
     }
 }
 
@@ -67,26 +61,12 @@ const ANY: usize = 18_446_744_073_709_551_615;
 
 // How many arguments the commands take, in the order of their places. The program's name and the
 // command's are counted.
-const LEAST: [usize; COMMANDS] = [3, 3, 6, 2, 2, 4, 4, 4, 2, 2, 2, 2];
+pub const LEAST: [usize; COMMANDS] = [3, 3, 6, 2, 2, 4, 4, 4, 2, 2, 2, 2];
 
-const MOST: [usize; COMMANDS] = [ANY, 3, 6, ANY, ANY, 4, 5, 5, 3, 2, 3, 2];
-
-// Whether the command at a place takes so many arguments.
-pub(super) fn takes(place: usize, count: usize) -> bool
-    requires { ⌜ place < 12 ⌝ }
-{
-    count >= LEAST[place] && count <= MOST[place]
-}
-
-// Which line of a command.
-const USAGE: usize = 0;
-
-const MEANING: usize = 1;
-
-const EXAMPLE: usize = 2;
+pub const MOST: [usize; COMMANDS] = [ANY, 3, 6, ANY, ANY, 4, 5, 5, 3, 2, 3, 2];
 
 // Three lines for each command: how it is written, what it prints, and an example.
-const LINES: [u8; 1651] = *b"lights check SHEET..\n\
+const LINES: [u8; 1652] = *b"lights check SHEET..\n\
 \x20   for each file: accepted, or its refusal, with its place and what to correct\n\
 \x20   example: lights check sheets/pull-me.sheet sheets/draining.sheet\n\
 lights image SHEET\n\
@@ -121,65 +101,63 @@ lights help [COMMAND]\n\
 \x20   example: lights help show\n\
 lights --version\n\
 \x20   the version, and the chips that it knows\n\
-\x20   example: lights --version";
+\x20   example: lights --version\n";
 
-// A line of a command.
-fn put_line(out: &mut [u8], at: usize, place: usize, which: usize) -> usize
-    requires { ⌜ (place < 12) × (which < 3) ⌝ }
+// The first lines of a command.
+fn put_lines(out: &mut [u8], at: usize, place: usize, count: usize) -> usize
+    requires { ⌜ (place < 12) × (count ≤ 3) ⌝ }
 {
-    let end = put_bytes(out, at, nth(&LINES, place * 3 + which, LINE_FEED));
-    put_byte(out, end, LINE_FEED)
+    let lines: &[u8] = &LINES;
+    let begin = nth_place(lines, place * 3, LINE_FEED);
+    let end = nth_place(lines, place * 3 + count, LINE_FEED);
+    put_bytes(out, at, from(until(lines, end), begin))
 }
 
-// All commands.
+// All commands: how each is written, and what it prints.
 pub fn full() -> Status {
     let mut out = [0u8; ANSWER];
     let mut at: usize = 0;
     let mut k: usize = 0;
     while k < COMMANDS {
-        at = put_line(&mut out, at, k, USAGE);
-        at = put_line(&mut out, at, k, MEANING);
+        at = put_lines(&mut out, at, k, 2);
         k += 1;
     }
     made(&out, at)
 }
 
-// One command, with an example.
-fn one(place: usize) -> Status
-    requires { ⌜ place < 12 ⌝ }
-{
-    let mut out = [0u8; ANSWER];
-    let meaning = put_line(&mut out, 0, place, USAGE);
-    let example = put_line(&mut out, meaning, place, MEANING);
-    let n = put_line(&mut out, example, place, EXAMPLE);
-    made(&out, n)
-}
-
 // help with the name of a command, or of the ops.
-pub fn about(to: Channel, name: &[u8]) -> Status {
+pub fn about(source: Source, line: &[u8]) -> Status {
+    let mut bytes = [0u8; LONGEST];
     let mut out = [0u8; ANSWER];
+    let argument = arguments::take(source, line, 2, &mut bytes);
+    let name = bytes_of(argument, &bytes);
     if text_bytes::same(name, b"ops") {
         let n = put_ops(&mut out);
         return made(&out, n);
     }
     let place = place_of(name);
-    if place < COMMANDS {
-        return one(place);
+    if place >= COMMANDS {
+        return unknown(source, name);
     }
-    unknown(to, name)
+    let n = put_lines(&mut out, 0, place, 3);
+    made(&out, n)
 }
 
 // A wrong number of arguments.
-pub(super) fn misused(to: Channel, place: usize) -> Status
+pub(super) fn misused(source: Source, place: usize) -> Status
     requires { ⌜ place < 12 ⌝ }
 {
     let mut out = [0u8; ANSWER];
     let usage = put_bytes(&mut out, 0, b"malformed: usage: ");
-    let n = put_line(&mut out, usage, place, USAGE);
-    write(to, &out, n, Status::Failed)
+    let n = put_lines(&mut out, usage, place, 1);
+    write(channel_of(source), &out, n, Status::Failed)
 }
 
 // No command has this name.
-pub fn unknown(to: Channel, name: &[u8]) -> Status {
-    tell_of(name, malformed(to, templates::NO_COMMAND))
+pub fn unknown(source: Source, name: &[u8]) -> Status {
+    tell_of(
+        channel_of(source),
+        name,
+        line_of(Status::Failed, templates::MALFORMED, templates::NO_COMMAND),
+    )
 }

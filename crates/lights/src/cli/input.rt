@@ -42,23 +42,22 @@ pub const NONE_YET: Input = Input {
     found: Found::Nothing,
 };
 
+const BROKEN: Input = Input {
+    at: 0,
+    stop: 0,
+    end: 0,
+    over: true,
+    skipping: false,
+    found: Found::Broken,
+};
+
 // What the bytes from `at` to `end` begin with.
 fn look(buf: &[u8], at: usize, end: usize, over: bool, skipping: bool) -> Input
     requires { ⌜ (at ≤ end) × (end ≤ length (now buf)) ⌝ }
     ensures { λ r. ⌜ (r .at ≤ r .stop) × (r .stop ≤ r .end) × (r .end ≤ length (now (buf .entry))) ⌝ }
 {
     let stop = bytes::scan::find(buf, at, end, LINE_FEED);
-    if stop < end {
-        return Input {
-            at,
-            stop,
-            end,
-            over,
-            skipping: false,
-            found: line_found(true, skipping),
-        };
-    }
-    if !over {
+    if stop == end && !over {
         return Input {
             at,
             stop,
@@ -68,25 +67,22 @@ fn look(buf: &[u8], at: usize, end: usize, over: bool, skipping: bool) -> Input
             found: Found::Nothing,
         };
     }
+    // a line, its end where it is too long, or the end of the input where there is none
+    let found = if skipping {
+        Found::TooLong
+    } else if at < end {
+        Found::Line
+    } else {
+        Found::End
+    };
     Input {
         at,
         stop,
         end,
         over,
         skipping: false,
-        found: line_found(at < end, skipping),
+        found,
     }
-}
-
-// A line, its end where it is too long, or the end of the input where there is none.
-fn line_found(some: bool, skipping: bool) -> Found {
-    if skipping {
-        return Found::TooLong;
-    }
-    if some {
-        return Found::Line;
-    }
-    Found::End
 }
 
 // Moves the bytes from `at` to `end` to the front.
@@ -151,14 +147,7 @@ fn more(buf: &mut [u8], input: Input) -> Input
     let end = kept.end;
     let got = read_some(libc::STDIN_FILENO, &mut buf[end..]);
     if got.failed {
-        return Input {
-            at: 0,
-            stop: 0,
-            end: 0,
-            over: true,
-            skipping: false,
-            found: Found::Broken,
-        };
+        return BROKEN;
     }
     look(buf, 0, end + got.count, got.count == 0, kept.skipping)
 }

@@ -18,6 +18,8 @@ pub enum Kind {
     Input,
     // `-`, where standard input has the commands
     Taken,
+    // `-`, after standard input was read
+    Read,
     // longer than any name
     TooLong,
 }
@@ -29,30 +31,23 @@ pub struct Name {
     pub kind: Kind,
 }
 
-fn kind_of(path: &[u8], source: Source) -> Kind {
-    if !same(path, b"-") {
-        return Kind::File;
-    }
-    match source {
-        Source::Program => Kind::Input,
-        Source::Line => Kind::Taken,
-    }
-}
-
-// Argument k as a name.
-pub fn take(source: Source, line: &[u8], k: usize, bytes: &mut [u8]) -> Name {
-    match arguments::take(source, line, k, bytes) {
-        Argument::Bytes(length) => Name {
-            length,
-            kind: kind_of(until(bytes, length), source),
-        },
-        Argument::TooLong => Name {
+// Argument k, which is there, as a name; `dash` is what `-` is among the program's arguments.
+pub fn take(source: Source, line: &[u8], k: usize, dash: Kind, bytes: &mut [u8]) -> Name {
+    let Argument::Bytes(length) = arguments::take(source, line, k, bytes) else {
+        return Name {
             length: put_bytes(bytes, SHOWN, b".."),
             kind: Kind::TooLong,
-        },
-        Argument::Missing => Name {
-            length: 0,
+        };
+    };
+    if !same(until(bytes, length), b"-") {
+        return Name {
+            length,
             kind: Kind::File,
-        },
+        };
     }
+    let kind = match source {
+        Source::Program => dash,
+        Source::Line => Kind::Taken,
+    };
+    Name { length, kind }
 }

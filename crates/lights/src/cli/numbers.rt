@@ -3,54 +3,20 @@ use text::Decimal;
 ghost use Prim.Native.Nat.{_≤_};
 
 // More beats than a run takes: it refuses them, as it refuses every number above its limit.
-const TOO_MANY: u32 = 4_294_967_295;
+pub const TOO_MANY: u32 = 4_294_967_295;
 
-pub enum Beats {
-    Number(u32),
-    Malformed,
-}
-
-pub fn read_beats(part: &[u8]) -> Beats {
-    match text_bytes::read_decimal(part, TOO_MANY) {
-        Decimal::Number(n) => Beats::Number(n),
-        Decimal::Outside => Beats::Number(TOO_MANY),
-        Decimal::Malformed => Beats::Malformed,
-    }
-}
-
-// A number of 16 bits.
 pub enum Number {
-    Value(u16),
-    TooLarge,
+    Value(u32),
     Malformed,
 }
 
-pub fn read_number(part: &[u8]) -> Number {
-    let d = text_bytes::read_decimal(part, 65535);
-    let Decimal::Number(n) = d else {
-        if let Decimal::Outside = d {
-            return Number::TooLarge;
-        }
-        return Number::Malformed;
-    };
-    Number::Value(n as u16)
-}
-
-pub enum Byte {
-    Value(u8),
-    TooLarge,
-    Malformed,
-}
-
-pub fn read_byte(part: &[u8]) -> Byte {
-    let d = text_bytes::read_decimal(part, 255);
-    let Decimal::Number(n) = d else {
-        if let Decimal::Outside = d {
-            return Byte::TooLarge;
-        }
-        return Byte::Malformed;
-    };
-    Byte::Value(n as u8)
+// A number above the greatest is read as that.
+pub fn read_number(part: &[u8], greatest: u32) -> Number {
+    match text_bytes::read_decimal(part, greatest) {
+        Decimal::Number(n) => Number::Value(n),
+        Decimal::Outside => Number::Value(greatest),
+        Decimal::Malformed => Number::Malformed,
+    }
 }
 
 // A word of four hexadecimal digits.
@@ -59,22 +25,15 @@ pub enum Hex {
     Malformed,
 }
 
-fn is_digit(b: u8) -> bool {
-    match b {
-        b'0'..=b'9' | b'A'..=b'F' | b'a'..=b'f' => true,
-        _ => false,
-    }
-}
-
-// The value of a digit; 0 for another byte.
+// The value of a digit; 16 for another byte.
 fn digit(b: u8) -> u16
-    ensures { λ r. ⌜ r ≤ 15 ⌝ }
+    ensures { λ r. ⌜ r ≤ 16 ⌝ }
 {
     match b {
         b'0'..=b'9' => (b - b'0') as u16,
         b'A'..=b'F' => (b - b'A' + 10) as u16,
         b'a'..=b'f' => (b - b'a' + 10) as u16,
-        _ => 0,
+        _ => 16,
     }
 }
 
@@ -83,15 +42,16 @@ pub fn read_hex(v: &[u8]) -> Hex {
     if v.len() != 4 {
         return Hex::Malformed;
     }
-    let a = v[0];
-    let b = v[1];
-    let c = v[2];
-    let d = v[3];
-    if !is_digit(a) || !is_digit(b) {
-        return Hex::Malformed;
+    let mut word: u16 = 0;
+    let mut i = 0;
+    while i < 4 {
+        let d = digit(v[i]);
+        if d == 16 {
+            return Hex::Malformed;
+        }
+        // three digits at most stand before this one
+        word = word % 4096 * 16 + d;
+        i += 1;
     }
-    if !is_digit(c) || !is_digit(d) {
-        return Hex::Malformed;
-    }
-    Hex::Word(digit(a) * 4096 + digit(b) * 256 + digit(c) * 16 + digit(d))
+    Hex::Word(word)
 }

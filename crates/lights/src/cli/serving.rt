@@ -3,15 +3,11 @@ use super::arguments::Source;
 use super::commands;
 use super::input;
 use super::input::Found;
-use super::output::Channel;
-use super::output::tell;
+use super::output::stopped;
+use super::output::wrong;
 use super::status::Status;
-use super::status::is_lost;
 use super::status::worse;
 use crate::bench::answers;
-use crate::sentences::say::lost;
-use crate::sentences::say::malformed;
-use crate::sentences::say::say_only;
 use crate::sentences::templates;
 use crate::sheets::ops;
 use machine::Chip;
@@ -26,142 +22,105 @@ pub enum Mode {
     Over,
 }
 
-// What the lines are, the bench's chip, and the worst status so far.
+// What the lines are, the bench's chip, and how the last line ended.
 pub struct Talk {
     pub mode: Mode,
     pub chip: Chip,
     pub status: Status,
 }
 
-// A command that asks for lines.
-pub fn begun(mode: Mode, chip: Chip) -> Talk {
+// A command that asks for none. Among command lines these go on.
+pub fn ended(source: Source, status: Status) -> Talk {
+    let mode = match source {
+        Source::Program => Mode::Over,
+        Source::Line => Mode::Commands,
+    };
     Talk {
         mode,
-        chip,
-        status: Status::Done,
-    }
-}
-
-// A command that asks for none.
-pub fn ended(status: Status) -> Talk {
-    Talk {
-        mode: Mode::Over,
         chip: chip::new_chip(),
         status,
     }
 }
 
-// One more status.
-fn and(t: Talk, status: Status) -> Talk {
-    let before = t.status;
-    Talk {
-        status: worse(before, status),
-        ..t
-    }
-}
-
-fn is_over(mode: Mode) -> bool {
-    if let Mode::Over = mode { true } else { false }
-}
-
-// What the lines are after those of a command: among command lines these, else none.
-fn outer(first: Mode) -> Mode {
-    match first {
-        Mode::Commands => first,
-        Mode::Decode | Mode::Encode | Mode::Bench | Mode::Over => Mode::Over,
-    }
+// The same lines go on.
+fn told(t: Talk, status: Status) -> Talk {
+    Talk { status, ..t }
 }
 
 // `quit` ends the bench, and lines of words or ops that stand among command lines.
-fn quits(mode: Mode, line: &[u8], outer: Mode) -> bool {
+fn quits(mode: Mode, line: &[u8], outer: Source) -> bool {
     if !text_bytes::same(line, b"quit") {
         return false;
     }
     match mode {
         Mode::Commands | Mode::Over => false,
-        Mode::Decode | Mode::Encode => !is_over(outer),
+        Mode::Decode | Mode::Encode => match outer {
+            Source::Program => false,
+            Source::Line => true,
+        },
         Mode::Bench => true,
     }
 }
 
-// One command line of several.
-fn command(t: Talk, line: &[u8]) -> Talk {
-    let before = t.status;
-    let own = commands::command(Source::Line, line);
-    let mode = own.mode;
-    let status = own.status;
-    if is_over(mode) {
-        return and(t, status);
-    }
-    and(own, before)
-}
-
-fn bench(t: Talk, line: &[u8]) -> Talk {
-    let m = t.chip;
-    let before = t.status;
-    let a = answers::answer(m, line);
-    let chip = a.chip;
-    let own = a.status;
-    Talk {
-        mode: Mode::Bench,
-        chip,
-        status: worse(before, own),
-    }
-}
-
-fn answered(t: Talk, line: &[u8], outer: Mode) -> Talk {
+// `outer`: where the command comes from that asks for these lines.
+fn answered(t: Talk, line: &[u8], outer: Source) -> Talk {
     let mode = t.mode;
+    let m = t.chip;
     if quits(mode, line, outer) {
-        return Talk { mode: outer, ..t };
+        return ended(outer, Status::Done);
     }
     match mode {
-        Mode::Commands => command(t, line),
-        Mode::Decode => and(t, ops::decode_line(line)),
-        Mode::Encode => and(t, ops::encode(line)),
-        Mode::Bench => bench(t, line),
+        Mode::Commands => commands::command(Source::Line, line),
+        Mode::Decode => told(t, ops::decode_line(line)),
+        Mode::Encode => told(t, ops::encode(line)),
+        Mode::Bench => answers::answer(m, line),
         Mode::Over => t,
     }
 }
 
 // A line, or what stands in its place.
-fn next(t: Talk, found: Found, line: &[u8], outer: Mode) -> Talk {
+fn next(t: Talk, found: Found, line: &[u8], outer: Source) -> Talk {
     match found {
         Found::Line => answered(t, line, outer),
-        Found::TooLong => and(t, tell(malformed(Channel::Output, templates::LONG_LINE))),
+        Found::TooLong => told(t, wrong(templates::LONG_LINE)),
         Found::End => Talk {
             mode: Mode::Over,
             ..t
         },
-        Found::Broken => and(t, tell(lost(templates::INPUT_BROKEN))),
-        Found::Nothing => and(t, tell(lost(templates::INPUT_ENDLESS))),
+        Found::Broken => told(t, stopped(templates::INPUT_BROKEN)),
+        Found::Nothing => told(t, stopped(templates::INPUT_ENDLESS)),
     }
 }
 
-// Answers line by line, to the end of the input or as far as the lines are wanted.
-fn serve(start: Talk, buf: &mut [u8]) -> Status {
-    let first = start.mode;
-    let outer = outer(first);
-    let mut t = start;
+// The program's command line, and the lines that it asks for: they are answered one by one, to the end of
+// the input or as far as they are wanted. The worst status.
+pub fn run() -> Status {
+    let mut buf = io::large_buffer();
+    let mut t = commands::command(Source::Program, b"");
+    let first = t.mode;
+    let outer = match first {
+        Mode::Commands => Source::Line,
+        Mode::Decode | Mode::Encode | Mode::Bench | Mode::Over => Source::Program,
+    };
+    let mut worst = t.status;
     let mut at = input::NONE_YET;
     let mut left: u64 = input::MOST;
     while left > 0 {
         let mode = t.mode;
-        let status = t.status;
-        if is_over(mode) || is_lost(status) {
-            return status;
+        if let Mode::Over = mode {
+            return worst;
         }
-        at = input::next(buf, at);
+        if let Status::Lost = worst {
+            return worst;
+        }
+        at = input::next(&mut buf, at);
         let found = at.found;
         let begin = at.at;
         let stop = at.stop;
         t = next(t, found, &buf[begin..stop], outer);
+        let status = t.status;
+        worst = worse(worst, status);
         left -= 1;
     }
     Status::Lost
-}
-
-// The program's command line, and the lines that it asks for.
-pub fn run() -> Status {
-    let mut buf = io::large_buffer();
-    serve(commands::command(Source::Program, b""), &mut buf)
 }

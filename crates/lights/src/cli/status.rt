@@ -24,21 +24,3 @@ pub fn worse(a: Status, b: Status) -> Status {
         Status::Lost => a,
     }
 }
-
-pub fn is_lost(status: Status) -> bool {
-    if let Status::Lost = status {
-        true
-    } else {
-        false
-    }
-}
-
-// The exit status as a digit.
-pub fn digit(status: Status) -> u8 {
-    match status {
-        Status::Done => b'0',
-        Status::Refused => b'1',
-        Status::Failed => b'2',
-        Status::Lost => b'2',
-    }
-}

@@ -1,9 +1,5 @@
 // The pieces of a drawing, in which `%` stands for the next number.
-use crate::sentences::filling::put_numbers;
-use crate::texts::pieces::nth;
-
-// Stands between two pieces.
-const NUL: u8 = 0;
+use crate::sentences::filling::fill;
 
 // Another level from x on.
 pub const CHANGE: usize = 0;
@@ -54,10 +50,7 @@ H1020V%Z\"/>\n\0\
 <path class=\"axis\" d=\"M60 466H1020\"/>\n\
 <text class=\"time\" x=\"1060\" y=\"490\">s</text>\n\0\
 </svg>\n";
-    put_numbers(
-        out,
-        at,
-        nth(table, piece, NUL),
-        [first, second, 0, 0, 0, 0, 0, 0],
-    )
+    let numbers = [first, second, 0, 0, 0, 0, 0, 0];
+    let none: &[u8] = b"";
+    fill(out, at, table, piece, numbers, none, none)
 }

@@ -10,17 +10,19 @@ use text_bytes::put_byte;
 use text_bytes::put_bytes;
 ghost use Prim.Native.Nat.{_<_, _≤_};
 
+// From dark to full.
+const SHADES: [u8; 10] = *b" .:-=+*#%@";
+
 // Output k's label, its shades and a bar.
 fn put_row(out: &mut [u8], at: usize, levels: &Levels, count: u64, k: usize) -> usize
     requires { ⌜ (count ≤ 480) × (k < 10) ⌝ }
 {
-    let shades = b" .:-=+*#%@";
     let mut next = put_bytes(out, at, nth(&names::LABELS, k, 0));
     let mut i: u64 = 0;
     while i < count {
         // ten shades from dark to full, rounded up
         let level = levels::level_at(levels, i, k);
-        next = put_byte(out, next, shades[(level as usize * 9 + 254) / 255]);
+        next = put_byte(out, next, SHADES[(level as usize * 9 + 254) / 255]);
         i += 1;
     }
     put_bytes(out, next, b"|\n")

@@ -14,8 +14,10 @@ const LAST_ADDRESS: u32 = (WORDS - 1) as u32;
 // A page has sixteen words.
 const LAST_PAGE: u32 = LAST_ADDRESS / 16;
 
-fn sentence(outcome: Outcome) -> Say {
-    match outcome {
+// A call's refusal, after this head, which has its number.
+pub fn of_outcome(head: usize, outcome: Outcome) -> Message {
+    let number = refusals::number_of(outcome) as u32;
+    let sentence = match outcome {
         Outcome::Success => say_only(templates::DONE),
         Outcome::EmptyBurst => say_only(templates::EMPTY_BURST),
         Outcome::UnlistedAddress => say_only(templates::UNLISTED_ADDRESS),
@@ -25,26 +27,19 @@ fn sentence(outcome: Outcome) -> Say {
         Outcome::MemoryInUse => say_only(templates::MEMORY_IN_USE),
         Outcome::OutputHeld => say_only(templates::OUTPUT_HELD),
         Outcome::TooManyBeats => say_one(templates::TOO_MANY_BEATS, chip::MOST_BEATS),
-    }
-}
-
-// A call's refusal, after this head, which has its number.
-pub fn of_outcome(head: usize, outcome: Outcome) -> Message {
-    let number = refusals::number_of(outcome) as u32;
-    refused(say_one(head, number), sentence(outcome))
+    };
+    refused(say_one(head, number), sentence)
 }
 
 // What a run did: its beats and words, and whether it ended as all was quiet.
 pub fn counts(beats: u32, words: [u32; 3], quiet: bool) -> Say {
-    let numbers = [beats, words[0], words[1], words[2], 0, 0, 0, 0];
-    if quiet {
-        return Say {
-            template: templates::COUNTS_QUIET,
-            numbers,
-        };
-    }
+    let template = if quiet {
+        templates::COUNTS_QUIET
+    } else {
+        templates::COUNTS
+    };
     Say {
-        template: templates::COUNTS,
-        numbers,
+        template,
+        numbers: [beats, words[0], words[1], words[2], 0, 0, 0, 0],
     }
 }

@@ -1,29 +1,9 @@
 // The table of the ops: their lines with the allowed values, the beats they take, and what they do.
-use super::filling::put_numbers;
+use super::filling::fill;
 use super::tables::OPS;
-use crate::texts::pieces::nth;
 
-// Stands between two rows.
-const NUL: u8 = 0;
-
-// A row for each op, by its template.
-fn put_rows(out: &mut [u8], rows: &[u8]) -> usize {
-    let mut next = 0;
-    let mut op = 0;
-    while op < OPS {
-        let row = nth(rows, op as usize, NUL);
-        next = put_numbers(out, next, row, [op, op, 0, 0, 0, 0, 0, 0]);
-        op += 1;
-    }
-    next
-}
-
-// The table in Markdown; each of its lines ends with LF. The rows are in the order of the ops, the first
-// with what stands above it.
-pub fn put_ops(out: &mut [u8]) -> usize {
-    put_rows(
-        out,
-        b"| op line | beats | effect |\n|---|---|---|\n\
+// A row of Markdown for each op, in their order, the first with what stands above it.
+const ROWS: [u8; 2263] = *b"| op line | beats | effect |\n|---|---|---|\n\
 | op=$@ | 1 | goes to the engine's first word; its loop counts become 0 |\n\0\
 | op=$@ | count times as wait, 0 as 1 | held outputs move by 1 after each, within 0 to 255; count=0 only with dir=down |\n\0\
 | op=$@ | time, or 32 times that with prescale=1 | only waits |\n\0\
@@ -54,6 +34,17 @@ pub fn put_ops(out: &mut [u8]) -> usize {
 | op=$@ | 1 | jumps to step (counted from the engine's first word) loops times, then goes on; loops=0: always |\n\0\
 | op=$@ | 1 | holds the engine; int=1 raises its interrupt flag; reset=1 goes to its first word, loop counts 0 |\n\0\
 | op=$@ | 1 | raises the engine's interrupt flag |\n\0\
-| op=$@ | until all in wait are there, at least 1 | clears them, then triggers all in send: sums of 1, 2, 4 (engines 1, 2, 3), 32 (pin) |\n",
-    )
+| op=$@ | until all in wait are there, at least 1 | clears them, then triggers all in send: sums of 1, 2, 4 (engines 1, 2, 3), 32 (pin) |\n";
+
+// The table; each of its lines ends with LF.
+pub fn put_ops(out: &mut [u8]) -> usize {
+    let none: &[u8] = b"";
+    let mut next = 0;
+    let mut op = 0;
+    while op < OPS {
+        let numbers = [op, op, 0, 0, 0, 0, 0, 0];
+        next = fill(out, next, &ROWS, op as usize, numbers, none, none);
+        op += 1;
+    }
+    next
 }

@@ -2,8 +2,8 @@
 use super::lines;
 use super::say::Message;
 use super::say::Say;
+use super::say::line_of;
 use super::say::refused;
-use super::say::right;
 use super::say::say_one;
 use super::say::say_only;
 use super::say::say_two;
@@ -11,11 +11,11 @@ use super::shown::quoted;
 use super::templates;
 use super::verdicts;
 use super::verdicts::Origin;
+use crate::cli::status::Status;
 use crate::texts::pieces::LINE_FEED;
 use crate::texts::pieces::after;
 use crate::texts::pieces::nth;
 use crate::texts::pieces::nth_place;
-use crate::texts::pieces::op_in;
 use asm::Assembled;
 use grammar::LineKind;
 use grammar::LineRead;
@@ -28,11 +28,11 @@ use word::WORDS;
 const LAST_ADDRESS: u16 = (WORDS - 1) as u16;
 
 // An engine's plan by its line; unused where the line is refused.
-fn engine_plan(text: &[u8], n: usize, form: LineKind) -> EnginePlan {
-    match line_reader::read_line(nth(text, n, LINE_FEED), form) {
-        LineRead::Read(v) => assembler::engine_plan(v),
-        LineRead::Refused(_) => EnginePlan::Unused,
-    }
+fn engine_plan(text: &[u8], n: usize, kind: LineKind) -> EnginePlan {
+    let LineRead::Read(v) = line_reader::read_line(nth(text, n, LINE_FEED), kind) else {
+        return EnginePlan::Unused;
+    };
+    assembler::engine_plan(v)
 }
 
 // The plan by the first three lines.
@@ -47,64 +47,33 @@ fn plan_of(text: &[u8]) -> Plan {
     }
 }
 
-// What has to stand in a line: a form and, in the line of a word, its address and the engine that has it.
-struct Expected {
-    form: LineKind,
-    address: u32,
-    engine: u32,
-}
-
-fn plan_line(form: LineKind) -> Expected {
-    Expected {
-        form,
-        address: 0,
-        engine: 0,
-    }
-}
-
-// In line n, counted from 0.
-fn expect(text: &[u8], n: u16) -> Expected {
-    match n {
-        0 => plan_line(LineKind::Plan(1)),
-        1 => plan_line(LineKind::Plan(2)),
-        2 => plan_line(LineKind::Plan(3)),
-        _ => {
-            let plan = plan_of(text);
-            let address = n - 3;
-            Expected {
-                form: sheet_places::line_kind_at(plan, address),
-                address: address as u32,
-                engine: sheet_places::owner_at(plan, address) as u32,
-            }
-        }
-    }
-}
-
 // What stands in the way of line n, counted from 0.
 fn fault(text: &[u8], n: u16) -> Say {
     let at = n as usize;
     if nth_place(text, at + 1, LINE_FEED) > text.len() {
         return say_only(templates::NO_LINE_FEED);
     }
-    let e = expect(text, n);
-    let form = e.form;
+    let plan = plan_of(text);
+    let kind = if n < 3 {
+        LineKind::Plan(n + 1)
+    } else {
+        sheet_places::line_kind_at(plan, n - 3)
+    };
     let line = nth(text, at, LINE_FEED);
-    if lines::is_elsewhere(line, form) {
-        return lines::of_place(form, e.engine, e.address);
+    if lines::is_elsewhere(line, kind) {
+        return lines::of_place(kind, plan, n);
     }
-    lines::of_line(line, form)
+    lines::of_line(line, kind)
 }
 
 // At a line, counted from 1.
 fn at_line(text: &[u8], line: u16, number: u32) -> Message {
     let n = if line == 0 { 0 } else { line - 1 };
-    let op = op_in(nth(text, n as usize, LINE_FEED));
     Message {
-        quote: quoted(op),
-        ..refused(
-            say_two(templates::REFUSED_LINE, line as u32, number),
-            fault(text, n),
-        )
+        status: Status::Refused,
+        head: say_two(templates::REFUSED_LINE, line as u32, number),
+        body: fault(text, n),
+        quote: quoted(nth(text, n as usize, LINE_FEED)),
     }
 }
 
@@ -114,24 +83,19 @@ fn line_count(text: &[u8]) -> u32 {
     let mut at: usize = 0;
     while at < text.len() {
         at = after(text, at, LINE_FEED);
-        n = one_more(n);
+        // no text that is read has more
+        if n < 4_294_967_295 {
+            n += 1;
+        }
     }
     n
-}
-
-// No text that is read has so many lines that the count would stop.
-fn one_more(n: u32) -> u32 {
-    if n == 4_294_967_295 {
-        return n;
-    }
-    n + 1
 }
 
 pub fn of_sheet(text: &[u8], read: Assembled) -> Message {
     let number = refusals::line_report_of(read).number as u32;
     let head = say_one(templates::REFUSED_FILE, number);
     match read {
-        Assembled::Program(_) => right(templates::DONE),
+        Assembled::Program(_) => line_of(Status::Done, templates::NAMED, templates::DONE),
         Assembled::WrongLength => refused(head, say_one(templates::IMAGE_LENGTH, WORDS as u32)),
         Assembled::Malformed { line }
         | Assembled::UnknownOp { line }
@@ -156,14 +120,10 @@ pub fn of_sheet(text: &[u8], read: Assembled) -> Message {
 // A refusal of an op line by itself.
 pub fn of_op_line(line: &[u8], read: WordLine) -> Message {
     let number = refusals::op_line_number_of(read) as u32;
-    match read {
-        WordLine::Code(_) => right(templates::DONE),
-        WordLine::Malformed | WordLine::UnknownOp | WordLine::OutsideField => Message {
-            quote: quoted(op_in(line)),
-            ..refused(
-                say_one(templates::REFUSED, number),
-                lines::of_line(line, LineKind::Op),
-            )
-        },
+    Message {
+        status: Status::Refused,
+        head: say_one(templates::REFUSED, number),
+        body: lines::of_line(line, LineKind::Op),
+        quote: quoted(line),
     }
 }

@@ -1,5 +1,4 @@
 // What is told, as a value: templates by their places in the table, and what stands in them.
-use crate::cli::output::Channel;
 use crate::cli::status::Status;
 use crate::sentences::shown::NO_QUOTE;
 use crate::sentences::shown::Quote;
@@ -11,9 +10,8 @@ pub struct Say {
     pub numbers: [u32; 8],
 }
 
-// A line: what stands before its sentence, and the sentence.
+// A line: how the command ends that prints it, what stands before its sentence, and the sentence.
 pub struct Message {
-    pub to: Channel,
     pub status: Status,
     pub head: Say,
     pub body: Say,
@@ -48,71 +46,21 @@ pub fn say_three(template: usize, a: u32, b: u32, c: u32) -> Say {
     }
 }
 
-pub fn wide(n: u16) -> u32 {
-    n as u32
-}
-
-// A sentence alone.
-pub fn plain(body: Say) -> Message {
+// Two templates without numbers.
+pub fn line_of(status: Status, head: usize, sentence: usize) -> Message {
     Message {
-        to: Channel::Output,
-        status: Status::Done,
-        head: say_only(templates::NOTHING),
-        body,
+        status,
+        head: say_only(head),
+        body: say_only(sentence),
         quote: NO_QUOTE,
-    }
-}
-
-// Of a file with which nothing is wrong.
-pub fn right(template: usize) -> Message {
-    Message {
-        head: say_only(templates::NAMED),
-        ..plain(say_only(template))
-    }
-}
-
-// Of a command that can't be understood.
-pub fn malformed(to: Channel, template: usize) -> Message {
-    Message {
-        to,
-        status: Status::Failed,
-        head: say_only(templates::MALFORMED),
-        body: say_only(template),
-        quote: NO_QUOTE,
-    }
-}
-
-// Of a file that can't be used.
-pub fn failed(template: usize) -> Message {
-    Message {
-        head: say_only(templates::NAMED),
-        ..malformed(Channel::Error, template)
-    }
-}
-
-// The program stops, and says why.
-pub fn lost(template: usize) -> Message {
-    Message {
-        to: Channel::Error,
-        status: Status::Lost,
-        ..plain(say_only(template))
     }
 }
 
 pub fn refused(head: Say, body: Say) -> Message {
     Message {
-        to: Channel::Error,
         status: Status::Refused,
         head,
         body,
         quote: NO_QUOTE,
-    }
-}
-
-// The same line on standard output.
-pub fn on_output(message: Message) -> Message {
-    Message {
-        to: Channel::Output,
-        ..message
     }
 }

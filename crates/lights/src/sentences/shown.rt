@@ -1,5 +1,8 @@
 // Bytes of others, shown or compared.
+use crate::texts::pieces::SPACE;
 use crate::texts::pieces::until;
+use crate::texts::pieces::value_of;
+use text_bytes::part_at;
 use text_bytes::put_byte;
 use text_bytes::put_bytes;
 
@@ -55,10 +58,12 @@ pub fn put_changed(out: &mut [u8], at: usize, v: &[u8], how: How) -> usize {
     next
 }
 
-pub fn quoted(v: &[u8]) -> Quote {
+// The op of a line: what stands after the equals sign of its first part.
+pub fn quoted(line: &[u8]) -> Quote {
     let mut bytes = [0u8; 42];
-    let end = put_changed(&mut bytes, 0, until(v, MOST_QUOTED), How::Ascii);
-    if v.len() > MOST_QUOTED {
+    let op = value_of(part_at(line, 0, SPACE));
+    let end = put_changed(&mut bytes, 0, until(op, MOST_QUOTED), How::Ascii);
+    if op.len() > MOST_QUOTED {
         let length = put_bytes(&mut bytes, end, b"..");
         return Quote { bytes, length };
     }

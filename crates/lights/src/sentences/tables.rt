@@ -64,10 +64,11 @@ fn number_at(table: &[u16], place: usize) -> u32 {
 // The pairs of a form: what follows the first pair of a line. The forms of the ops come first, in the
 // order of their names, then that of the plan lines.
 pub(super) fn pairs_of(form: u32) -> Stretch {
+    let places: &[u8] = &FORM_AT;
     let at = form as usize;
     Stretch {
-        from: small_at(&FORM_AT, at),
-        to: small_at(&FORM_AT, at + 1),
+        from: small_at(places, at),
+        to: small_at(places, at + 1),
     }
 }
 
@@ -103,9 +104,10 @@ pub(super) fn words_of(kind: u32) -> Stretch
 
 // The bytes of a name among those of all names.
 fn bytes_of(names: &[u8], name: u32) -> &[u8] {
+    let places: &[u16] = &NAME_AT;
     let at = name as usize;
-    let start = number_at(&NAME_AT, at);
-    let end = number_at(&NAME_AT, at + 1);
+    let start = number_at(places, at);
+    let end = number_at(places, at + 1);
     from(until(names, end as usize), start as usize)
 }
 

@@ -4,10 +4,6 @@
 // a command.
 use super::filling::fill;
 use super::say::Say;
-use crate::texts::pieces::nth;
-
-// Stands between two templates.
-const NUL: u8 = 0;
 
 // What stands before a sentence.
 pub const NOTHING: usize = 0;
@@ -198,8 +194,12 @@ pub const ROW_PLACE: usize = 89;
 
 pub const SPARE_PLACE: usize = 90;
 
+pub const NO_ENGINE: usize = 91;
+
+pub const ENGINE_SHAPE: usize = 92;
+
 // In the order of the places above.
-const TABLE: [u8; 4075] = *b"\0\
+const TABLE: [u8; 4146] = *b"\0\
 ^: \0\
 malformed: \0\
 refused %: \0\
@@ -298,17 +298,12 @@ spare= is followed by one decimal number without leading zeros\0\
 spare= is 0 to %\0\
 word % is code of engine %: an op line belongs here\0\
 word % is a row of engine %'s table: row=N belongs here\0\
-word % is outside every engine's code and table, so this line has to be spare=N";
+word % is outside every engine's code and table, so this line has to be spare=N\0\
+engine= has no value\0\
+engine= is a decimal number without leading zeros";
 
 // A template, filled in.
 pub fn put_say(out: &mut [u8], at: usize, say: Say, quote: &[u8], name: &[u8]) -> usize {
     let numbers = say.numbers;
-    fill(
-        out,
-        at,
-        nth(&TABLE, say.template, NUL),
-        numbers,
-        quote,
-        name,
-    )
+    fill(out, at, &TABLE, say.template, numbers, quote, name)
 }

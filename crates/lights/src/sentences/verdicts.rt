@@ -1,14 +1,12 @@
-// Refusals of the checker and of the disassembler.
+// Refusals of the checker.
 use super::say::Message;
 use super::say::Say;
 use super::say::refused;
-use super::say::right;
 use super::say::say_one;
 use super::say::say_only;
 use super::say::say_three;
 use super::say::say_two;
 use super::templates;
-use asm::Disassembled;
 use plan::EnginePlan;
 use plan::Plan;
 use plan::Stray;
@@ -46,58 +44,35 @@ fn word_at(image: &[u16], address: Address) -> Word {
     Word::Undefined
 }
 
-// At a word of an engine.
 fn word_head(origin: Origin, number: u32, engine: u32, address: u16) -> Say {
     match origin {
-        Origin::Sheet => Say {
-            template: templates::REFUSED_WORD_LINE,
-            numbers: [
-                sheet_places::line_of(address),
-                number,
-                engine,
-                address as u32,
-                0,
-                0,
-                0,
-                0,
-            ],
-        },
-        Origin::Image => { say_three(templates::REFUSED_WORD, number, engine, address as u32) },
+        Origin::Sheet => {
+            let line = sheet_places::line_of(address);
+            Say {
+                template: templates::REFUSED_WORD_LINE,
+                numbers: [line, number, engine, address as u32, 0, 0, 0, 0],
+            }
+        }
+        Origin::Image => say_three(templates::REFUSED_WORD, number, engine, address as u32),
     }
 }
 
-// What stands before the sentence.
+// What stands before the sentence: the file, an engine of it, or one of its words.
 fn head_of(origin: Origin, verdict: Verdict) -> Say {
     let report = refusals::report_of(verdict);
     let number = report.number as u32;
     let engine = report.engine as u32;
-    let address = report.address;
     match verdict {
         Verdict::Accept => say_only(templates::NAMED),
         Verdict::WrongLength => say_one(templates::REFUSED_FILE, number),
         Verdict::OutOfOrder { engine: _ } | Verdict::CodeMeetsTable { engine: _ } => {
             say_two(templates::REFUSED_ENGINE, number, engine)
         }
-        Verdict::UndefinedWord {
-            engine: _,
-            address: _,
-        }
-        | Verdict::SuccessorOutside {
-            engine: _,
-            address: _,
-        }
-        | Verdict::TableMisused {
-            engine: _,
-            address: _,
-        }
-        | Verdict::TableNotOpened {
-            engine: _,
-            address: _,
-        }
-        | Verdict::ReservedRowBit {
-            engine: _,
-            address: _,
-        } => { word_head(origin, number, engine, address) }
+        Verdict::UndefinedWord { .. }
+        | Verdict::SuccessorOutside { .. }
+        | Verdict::TableMisused { .. }
+        | Verdict::TableNotOpened { .. }
+        | Verdict::ReservedRowBit { .. } => word_head(origin, number, engine, report.address),
     }
 }
 
@@ -106,14 +81,12 @@ struct Range {
     last: u32,
 }
 
-fn range_of(q: EnginePlan) -> Range {
-    match q {
+// 14: where the word can step to.
+fn of_stray(engine: u32, q: EnginePlan, address: Address, w: Word) -> Say {
+    let r = match q {
         EnginePlan::Unused => Range { first: 0, last: 0 },
-        EnginePlan::Code { first, last } => Range {
-            first: first.0 as u32,
-            last: last.0 as u32,
-        },
-        EnginePlan::CodeAndTable {
+        EnginePlan::Code { first, last }
+        | EnginePlan::CodeAndTable {
             first,
             last,
             top: _,
@@ -122,12 +95,7 @@ fn range_of(q: EnginePlan) -> Range {
             first: first.0 as u32,
             last: last.0 as u32,
         },
-    }
-}
-
-// 14: where the word can step to.
-fn of_stray(engine: u32, q: EnginePlan, address: Address, w: Word) -> Say {
-    let r = range_of(q);
+    };
     match checker::stray_of(q, address, w) {
         Stray::Inside => say_three(templates::LEAVES, engine, r.first, r.last),
         Stray::To(to) => Say {
@@ -197,17 +165,4 @@ fn sentence(plan: Plan, image: &[u16], verdict: Verdict) -> Say {
 
 pub fn of_verdict(origin: Origin, plan: Plan, image: &[u16], verdict: Verdict) -> Message {
     refused(head_of(origin, verdict), sentence(plan, image, verdict))
-}
-
-// What the disassembler refuses.
-pub fn of_written(plan: Plan, image: &[u16], answer: Disassembled) -> Message {
-    let number = refusals::written_report_of(answer).number as u32;
-    match answer {
-        Disassembled::Length(_) => right(templates::DONE),
-        Disassembled::Refused(verdict) => of_verdict(Origin::Image, plan, image, verdict),
-        Disassembled::TooShort => refused(
-            say_one(templates::REFUSED_FILE, number),
-            say_only(templates::LONG_SHEET),
-        ),
-    }
 }

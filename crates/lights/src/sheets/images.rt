@@ -3,25 +3,26 @@ ghost use Prim.Native.Nat.{_*_, _+_, _≤_, _<_};
 ghost use lib.ListN.{length};
 use super::plans;
 use super::plans::Planned;
-use super::reading::unused;
 use crate::cli::arguments;
 use crate::cli::arguments::Argument;
 use crate::cli::arguments::Source;
-use crate::cli::commands::channel;
 use crate::cli::files;
 use crate::cli::files::File;
 use crate::cli::names::Kind;
 use crate::cli::numbers::Hex;
 use crate::cli::numbers::read_hex;
-use crate::cli::output::Channel;
+use crate::cli::output::ERROR;
 use crate::cli::output::made;
-use crate::cli::output::tell;
+use crate::cli::output::misread;
 use crate::cli::output::tell_of;
 use crate::cli::status::Status;
-use crate::sentences::say::failed;
-use crate::sentences::say::malformed;
+use crate::sentences::say::line_of;
+use crate::sentences::say::refused;
+use crate::sentences::say::say_one;
+use crate::sentences::say::say_only;
 use crate::sentences::templates;
-use crate::sentences::verdicts;
+use crate::sentences::verdicts::Origin;
+use crate::sentences::verdicts::of_verdict;
 use crate::texts::pieces::until;
 use crate::texts::words::separator;
 use asm::Disassembled;
@@ -33,33 +34,17 @@ const LONGEST_SHEET: usize = 16_384;
 // More words than the chip has, so that the disassembler refuses an image that is too long.
 const MOST_WORDS: usize = 128;
 
-// Whether word k of n is followed by the right byte.
-fn is_separated(bytes: &[u8], k: usize, n: usize) -> bool
-    requires { ⌜ (k < n) × (n ≤ 128) × (n * 5 ≤ length (now bytes)) ⌝ }
-{
-    if k + 1 == n {
-        return bytes[k * 5 + 4] == b'\n';
-    }
-    bytes[k * 5 + 4] == separator(k)
-}
-
-fn word_at(bytes: &[u8], k: usize) -> Hex
-    requires { ⌜ (k < 128) × (k * 5 + 5 ≤ length (now bytes)) ⌝ }
-{
-    let at = k * 5;
-    read_hex(&bytes[at..at + 4])
-}
-
 // Reads the n words of an image; false where one is malformed.
 fn read_words(bytes: &[u8], image: &mut [u16], n: usize) -> bool
     requires { ⌜ (n ≤ 128) × (n * 5 ≤ length (now bytes)) × (n ≤ length (now image)) ⌝ }
 {
     let mut k: usize = 0;
     while k < n {
-        let Hex::Word(w) = word_at(bytes, k) else {
+        let at = k * 5;
+        let Hex::Word(w) = read_hex(&bytes[at..at + 4]) else {
             return false;
         };
-        if !is_separated(bytes, k, n) {
+        if bytes[at + 4] != separator(k, n) {
             return false;
         }
         image[k] = w;
@@ -71,14 +56,24 @@ fn read_words(bytes: &[u8], image: &mut [u16], n: usize) -> bool
 fn written(path: &[u8], plan: Plan, image: &[u16]) -> Status {
     let mut sheet = [0u8; LONGEST_SHEET];
     let answer = disassembler::disassemble(plan, image, &mut sheet);
-    let Disassembled::Length(n) = answer else {
-        return tell_of(path, verdicts::of_written(plan, image, answer));
+    let number = refusals::written_report_of(answer).number as u32;
+    let message = match answer {
+        Disassembled::Length(n) => return made(&sheet, n),
+        Disassembled::Refused(verdict) => of_verdict(Origin::Image, plan, image, verdict),
+        Disassembled::TooShort => refused(
+            say_one(templates::REFUSED_FILE, number),
+            say_only(templates::LONG_SHEET),
+        ),
     };
-    made(&sheet, n)
+    tell_of(ERROR, path, message)
 }
 
 fn misshapen(path: &[u8]) -> Status {
-    tell_of(path, failed(templates::NO_IMAGE))
+    tell_of(
+        ERROR,
+        path,
+        line_of(Status::Failed, templates::NAMED, templates::NO_IMAGE),
+    )
 }
 
 fn of_bytes(path: &[u8], bytes: &[u8], plan: Plan) -> Status {
@@ -101,17 +96,19 @@ fn of_file(path: &[u8], kind: Kind, plan: Plan) -> Status {
     let mut buf = io::large_buffer();
     match files::read(path, kind, &mut buf) {
         File::Bytes(n) => of_bytes(path, until(&buf, n), plan),
-        File::Unused(trouble) => tell_of(path, unused(trouble)),
+        File::Unused(head, sentence) => {
+            tell_of(ERROR, path, line_of(Status::Failed, head, sentence))
+        }
     }
 }
 
 // Argument k as an engine's plan.
 fn take_plan(source: Source, line: &[u8], k: usize) -> Planned {
     let mut bytes = [0u8; 64];
-    match arguments::take(source, line, k, &mut bytes) {
-        Argument::Bytes(n) => plans::read(until(&bytes, n)),
-        Argument::TooLong | Argument::Missing => Planned::Malformed,
-    }
+    let Argument::Bytes(n) = arguments::take(source, line, k, &mut bytes) else {
+        return Planned::Malformed;
+    };
+    plans::read(until(&bytes, n))
 }
 
 // sheet IMAGE E1 E2 E3
@@ -120,13 +117,13 @@ pub fn sheet(source: Source, line: &[u8], path: &[u8], kind: Kind) -> Status {
     let two = take_plan(source, line, 4);
     let three = take_plan(source, line, 5);
     let Planned::Plan(engine1) = one else {
-        return no_plan(source);
+        return misread(source, templates::NO_PLAN);
     };
     let Planned::Plan(engine2) = two else {
-        return no_plan(source);
+        return misread(source, templates::NO_PLAN);
     };
     let Planned::Plan(engine3) = three else {
-        return no_plan(source);
+        return misread(source, templates::NO_PLAN);
     };
     let plan = Plan {
         engine1,
@@ -134,8 +131,4 @@ pub fn sheet(source: Source, line: &[u8], path: &[u8], kind: Kind) -> Status {
         engine3,
     };
     of_file(path, kind, plan)
-}
-
-fn no_plan(source: Source) -> Status {
-    tell(malformed(channel(source), templates::NO_PLAN))
 }

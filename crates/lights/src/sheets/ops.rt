@@ -2,17 +2,14 @@
 use crate::cli::numbers::Hex;
 use crate::cli::numbers::read_hex;
 use crate::cli::output::ANSWER;
-use crate::cli::output::Channel;
+use crate::cli::output::OUTPUT;
 use crate::cli::output::made;
 use crate::cli::output::tell;
+use crate::cli::output::tell_only;
+use crate::cli::output::wrong;
 use crate::cli::status::Status;
-use crate::cli::status::is_lost;
 use crate::cli::status::worse;
 use crate::sentences::reader;
-use crate::sentences::say::malformed;
-use crate::sentences::say::on_output;
-use crate::sentences::say::plain;
-use crate::sentences::say::say_only;
 use crate::sentences::templates;
 use crate::texts::pieces::SPACE;
 use crate::texts::pieces::after;
@@ -26,10 +23,10 @@ use text_bytes::put_byte;
 pub fn decode(word: &[u8]) -> Status {
     let mut out = [0u8; ANSWER];
     let Hex::Word(code) = read_hex(word) else {
-        return tell(malformed(Channel::Output, templates::NO_WORD));
+        return wrong(templates::NO_WORD);
     };
     let WordWritten::Length(end) = op_codec::disassemble_word(code, &mut out) else {
-        return tell(plain(say_only(templates::UNDEFINED)));
+        return tell_only(templates::UNDEFINED);
     };
     let n = put_byte(&mut out, end, b'\n');
     made(&out, n)
@@ -41,7 +38,7 @@ pub fn decode_line(line: &[u8]) -> Status {
     let mut at: usize = 0;
     while at <= line.len() {
         status = worse(status, decode(part_at(line, at, SPACE)));
-        if is_lost(status) {
+        if let Status::Lost = status {
             return status;
         }
         at = after(line, at, SPACE);
@@ -54,7 +51,7 @@ pub fn encode(line: &[u8]) -> Status {
     let mut out = [0u8; ANSWER];
     let read = op_codec::assemble_line(line);
     let WordLine::Code(code) = read else {
-        return tell(on_output(reader::of_op_line(line, read)));
+        return tell(OUTPUT, reader::of_op_line(line, read));
     };
     let end = put_hex(&mut out, 0, code);
     let n = put_byte(&mut out, end, b'\n');

@@ -14,33 +14,27 @@ pub enum Planned {
 
 // Two numbers with a dash between.
 enum Range {
-    From(u16, u16),
+    From(Address, Address),
     Malformed,
 }
 
 // A number that 16 bits don't hold is past every memory, as the greatest of them is: 11.
-const PAST_MEMORY: u16 = 65535;
-
-// What stands after a byte; no byte where it is missing.
-fn after(argument: &[u8], mark: u8) -> &[u8] {
-    from(argument, part_at(argument, 0, mark).len() + 1)
-}
-
-fn up_to(first: u16, last: Number) -> Range {
-    match last {
-        Number::Value(n) => Range::From(first, n),
-        Number::TooLarge => Range::From(first, PAST_MEMORY),
-        Number::Malformed => Range::Malformed,
-    }
-}
+const PAST_MEMORY: u32 = 65_535;
 
 fn read_range(argument: &[u8]) -> Range {
-    let last = read_number(after(argument, b'-'));
-    match read_number(part_at(argument, 0, b'-')) {
-        Number::Value(n) => up_to(n, last),
-        Number::TooLarge => up_to(PAST_MEMORY, last),
-        Number::Malformed => Range::Malformed,
-    }
+    let begin = part_at(argument, 0, b'-');
+    let one = read_number(begin, PAST_MEMORY);
+    let two = read_number(from(argument, begin.len() + 1), PAST_MEMORY);
+    let Number::Value(first) = one else {
+        return Range::Malformed;
+    };
+    let Number::Value(last) = two else {
+        return Range::Malformed;
+    };
+    Range::From(
+        Address((first % 65_536) as u16),
+        Address((last % 65_536) as u16),
+    )
 }
 
 pub fn read(argument: &[u8]) -> Planned {
@@ -52,18 +46,15 @@ pub fn read(argument: &[u8]) -> Planned {
         return Planned::Malformed;
     };
     if code.len() == argument.len() {
-        return Planned::Plan(EnginePlan::Code {
-            first: Address(first),
-            last: Address(last),
-        });
+        return Planned::Plan(EnginePlan::Code { first, last });
     }
-    let Range::From(top, bottom) = read_range(after(argument, b'/')) else {
+    let Range::From(top, bottom) = read_range(from(argument, code.len() + 1)) else {
         return Planned::Malformed;
     };
     Planned::Plan(EnginePlan::CodeAndTable {
-        first: Address(first),
-        last: Address(last),
-        top: Address(top),
-        bottom: Address(bottom),
+        first,
+        last,
+        top,
+        bottom,
     })
 }

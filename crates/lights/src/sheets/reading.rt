@@ -1,19 +1,15 @@
 // Sheets from files, read.
 use crate::cli::files;
 use crate::cli::files::File;
-use crate::cli::files::Trouble;
 use crate::cli::names::Kind;
 use crate::cli::output::ANSWER;
-use crate::cli::output::Channel;
+use crate::cli::output::ERROR;
 use crate::cli::output::made;
 use crate::cli::output::tell_of;
 use crate::cli::status::Status;
 use crate::sentences::reader;
 use crate::sentences::say::Message;
-use crate::sentences::say::failed;
-use crate::sentences::say::malformed;
-use crate::sentences::say::right;
-use crate::sentences::templates;
+use crate::sentences::say::line_of;
 use crate::texts::pieces::until;
 use crate::texts::words::put_words;
 use asm::Assembled;
@@ -31,30 +27,18 @@ pub struct Found {
     pub message: Message,
 }
 
-pub fn missing(message: Message) -> Found {
-    Found {
-        program: Program::Missing,
-        message,
-    }
-}
-
 fn assembled(text: &[u8], image: &mut [u16]) -> Found {
     let read = assembler::assemble(text, image);
+    let message = reader::of_sheet(text, read);
     let Assembled::Program(plan) = read else {
-        return missing(reader::of_sheet(text, read));
+        return Found {
+            program: Program::Missing,
+            message,
+        };
     };
     Found {
         program: Program::Plan(plan),
-        message: right(templates::DONE),
-    }
-}
-
-// What is said of a file whose bytes can't be used.
-pub fn unused(trouble: Trouble) -> Message {
-    match trouble {
-        Trouble::Unreadable => failed(templates::UNREADABLE),
-        Trouble::TooLarge => failed(templates::TOO_LARGE),
-        Trouble::Taken => malformed(Channel::Error, templates::HAS_COMMANDS),
+        message,
     }
 }
 
@@ -63,7 +47,10 @@ pub fn read(path: &[u8], kind: Kind, image: &mut [u16]) -> Found {
     let mut buf = io::large_buffer();
     match files::read(path, kind, &mut buf) {
         File::Bytes(n) => assembled(until(&buf, n), image),
-        File::Unused(trouble) => missing(unused(trouble)),
+        File::Unused(head, sentence) => Found {
+            program: Program::Missing,
+            message: line_of(Status::Failed, head, sentence),
+        },
     }
 }
 
@@ -79,8 +66,8 @@ pub fn image(path: &[u8], kind: Kind) -> Status {
     let mut words = [0u16; WORDS];
     let found = read(path, kind, &mut words);
     let program = found.program;
-    match program {
-        Program::Plan(_) => write_words(&words),
-        Program::Missing => tell_of(path, found.message),
+    if let Program::Missing = program {
+        return tell_of(ERROR, path, found.message);
     }
+    write_words(&words)
 }

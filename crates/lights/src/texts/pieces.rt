@@ -7,7 +7,7 @@ pub const LINE_FEED: u8 = b'\n';
 
 pub const SPACE: u8 = b' ';
 
-const EQUALS_SIGN: u8 = b'=';
+pub const EQUALS_SIGN: u8 = b'=';
 
 // The first `end` bytes, or all where there are fewer.
 pub fn until(s: &[u8], end: usize) -> &[u8] {
@@ -66,14 +66,9 @@ pub fn place_of(table: &[u8], part: &[u8]) -> usize {
     k
 }
 
-// What stands before the first equals sign of a part.
-pub fn key_of(part: &[u8]) -> &[u8] {
-    part_at(part, 0, EQUALS_SIGN)
-}
-
-// What stands after it; no byte where there is none.
+// What stands after the first equals sign of a part; no byte where there is none.
 pub fn value_of(part: &[u8]) -> &[u8] {
-    from(part, key_of(part).len() + 1)
+    from(part, part_at(part, 0, EQUALS_SIGN).len() + 1)
 }
 
 pub fn ends_in(s: &[u8], b: u8) -> bool {
@@ -81,9 +76,4 @@ pub fn ends_in(s: &[u8], b: u8) -> bool {
         return false;
     }
     s[s.len() - 1] == b
-}
-
-// What stands after the first key of a line, as `op=`.
-pub fn op_in(line: &[u8]) -> &[u8] {
-    value_of(part_at(line, 0, SPACE))
 }

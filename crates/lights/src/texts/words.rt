@@ -1,11 +1,12 @@
 // Words of memory in hexadecimal digits.
 use text_bytes::put_byte;
 use text_bytes::put_bytes;
+ghost use Prim.Native.Nat.{_<_};
+
+const GLYPHS: [u8; 16] = *b"0123456789ABCDEF";
 
 fn glyph(n: u16) -> u8 {
-    let glyphs = b"0123456789ABCDEF";
-    let at = (n % 16) as usize;
-    glyphs[at]
+    GLYPHS[(n % 16) as usize]
 }
 
 // Four hexadecimal digits.
@@ -20,13 +21,18 @@ pub fn put_words(out: &mut [u8], at: usize, words: &[u16]) -> usize {
     let mut i = 0;
     while i < words.len() {
         next = put_hex(out, next, words[i]);
-        next = put_byte(out, next, separator(i));
+        next = put_byte(out, next, separator(i, words.len()));
         i += 1;
     }
     next
 }
 
-// The byte after word i of an image.
-pub fn separator(i: usize) -> u8 {
-    if i % 16 == 15 { b'\n' } else { b' ' }
+// The byte after word i of so many.
+pub fn separator(i: usize, count: usize) -> u8
+    requires { ⌜ i < count ⌝ }
+{
+    if i % 16 == 15 || i + 1 == count {
+        return b'\n';
+    }
+    b' '
 }

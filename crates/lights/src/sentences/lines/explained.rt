@@ -1,5 +1,9 @@
 // What is to be repaired in a line that is refused with 20, 21 or 22. In a line the lowest number is
 // given, so the first fault in the order below is the one that the line is refused for.
+use super::faults::ALLOWED;
+use super::faults::Fault;
+use super::faults::MALFORMED;
+use super::faults::NOT_ALLOWED;
 use super::faults::fault_of;
 use crate::sentences::say::Say;
 use crate::sentences::say::say_one;
@@ -16,19 +20,18 @@ use crate::sentences::tables::pairs_of;
 use crate::sentences::tables::place_of;
 use crate::sentences::tables::ranges_of;
 use crate::sentences::templates;
+use crate::texts::pieces::EQUALS_SIGN;
 use crate::texts::pieces::SPACE;
 use crate::texts::pieces::after;
 use crate::texts::pieces::ends_in;
-use crate::texts::pieces::key_of;
-use crate::texts::pieces::op_in;
 use crate::texts::pieces::until;
+use crate::texts::pieces::value_of;
 use grammar::LineKind;
 use grammar::PLAN_FORM;
 use text::Decimal;
 use text_bytes::part_at;
 use text_bytes::read_decimal;
 use text_bytes::same;
-ghost use Prim.Native.Nat.{_<_};
 
 const TAB: u8 = 9;
 
@@ -53,15 +56,6 @@ fn has_two_spaces(line: &[u8]) -> bool {
     false
 }
 
-fn keys_sentence(pairs: Stretch) -> usize
-    requires { ⌜ pairs .from < pairs .to ⌝ }
-{
-    if pairs.to - pairs.from == 1 {
-        return templates::ONE_KEY;
-    }
-    templates::KEYS
-}
-
 // A line of an op with pairs that is refused though each value is allowed goes up by 0, which its last
 // pair says.
 fn of_known(line: &[u8], op: u32) -> Say {
@@ -71,8 +65,16 @@ fn of_known(line: &[u8], op: u32) -> Say {
     }
     let last = pair_at(pairs.to - 1);
     let most = ranges_of(last.kind).high;
-    let keys = say_two(keys_sentence(pairs), op, op);
-    let none = say_three(templates::UP_BY_ZERO, op, last.key, most);
+    let template = if pairs.to - pairs.from == 1 {
+        templates::ONE_KEY
+    } else {
+        templates::KEYS
+    };
+    let keys = say_two(template, op, op);
+    let none = Fault {
+        rank: ALLOWED,
+        say: say_three(templates::UP_BY_ZERO, op, last.key, most),
+    };
     fault_of(line, after(line, 0, SPACE), pairs, keys, none)
 }
 
@@ -89,15 +91,15 @@ fn of_unknown(v: &[u8]) -> Say {
 }
 
 fn of_op(line: &[u8]) -> Say {
-    let key = key_of(line);
+    let key = part_at(line, 0, EQUALS_SIGN);
     if key.len() == line.len() || !same(key, b"op") {
         return say_only(templates::NO_OP_KEY);
     }
-    let v = op_in(line);
+    let v = value_of(part_at(line, 0, SPACE));
     if v.len() == 0 {
         return say_only(templates::NO_OP_VALUE);
     }
-    if key_of(v).len() < v.len() {
+    if part_at(v, 0, EQUALS_SIGN).len() < v.len() {
         return say_only(templates::TWO_SIGNS);
     }
     let op = place_of(v, 0, OPS);
@@ -107,15 +109,44 @@ fn of_op(line: &[u8]) -> Say {
     of_unknown(v)
 }
 
-// A plan line that is refused though each value after the first is allowed has another engine's number.
-fn of_plan(line: &[u8], engine: u32) -> Say {
-    let plan = say_two(templates::PLAN, engine, engine);
-    let number = text_bytes::value_of(part_at(line, 0, SPACE), b"engine");
-    if let Decimal::Malformed = read_decimal(number, MOST) {
-        return plan;
+// What is wrong with the engine's number in its plan line.
+fn of_engine(v: &[u8], engine: u32) -> Fault {
+    if v.len() == 0 {
+        return Fault {
+            rank: MALFORMED,
+            say: say_only(templates::NO_ENGINE),
+        };
+    }
+    let d = read_decimal(v, MOST);
+    if let Decimal::Malformed = d {
+        return Fault {
+            rank: MALFORMED,
+            say: say_only(templates::ENGINE_SHAPE),
+        };
     }
     let other = say_one(templates::ENGINE, engine);
-    fault_of(line, after(line, 0, SPACE), pairs_of(PLAN), plan, other)
+    if let Decimal::Number(n) = d {
+        if n == engine {
+            return Fault {
+                rank: ALLOWED,
+                say: other,
+            };
+        }
+    }
+    Fault {
+        rank: NOT_ALLOWED,
+        say: other,
+    }
+}
+
+fn of_plan(line: &[u8], engine: u32) -> Say {
+    let plan = say_two(templates::PLAN, engine, engine);
+    let first = part_at(line, 0, SPACE);
+    if !same(part_at(first, 0, EQUALS_SIGN), b"engine") {
+        return plan;
+    }
+    let fault = of_engine(value_of(first), engine);
+    fault_of(line, after(line, 0, SPACE), pairs_of(PLAN), plan, fault)
 }
 
 // A line of one pair, whose value is a number of 16 bits: the sentence about its range, or its shape.
@@ -126,8 +157,38 @@ fn of_single(line: &[u8], key: &[u8], range: usize, shape: usize) -> Say {
     say_only(shape)
 }
 
-fn of_form(line: &[u8], form: LineKind) -> Say {
-    match form {
+// What is wrong with the line whatever its form; nothing where that is to be judged by its form.
+fn shape_of(line: &[u8]) -> usize {
+    if line.len() == 0 {
+        return templates::EMPTY_LINE;
+    }
+    if ends_in(line, CARRIAGE_RETURN) {
+        return templates::CARRIAGE_RETURN;
+    }
+    if same(until(line, 3), b"\xEF\xBB\xBF") {
+        return templates::BYTE_ORDER_MARK;
+    }
+    if part_at(line, 0, TAB).len() < line.len() {
+        return templates::TAB;
+    }
+    if has_two_spaces(line) {
+        return templates::TWO_SPACES;
+    }
+    if part_at(line, 0, SPACE).len() == 0 {
+        return templates::SPACE_AT_START;
+    }
+    if ends_in(line, SPACE) {
+        return templates::SPACE_AT_END;
+    }
+    templates::NOTHING
+}
+
+pub fn of_line(line: &[u8], kind: LineKind) -> Say {
+    let shape = shape_of(line);
+    if shape != templates::NOTHING {
+        return say_only(shape);
+    }
+    match kind {
         LineKind::Op => of_op(line),
         LineKind::Plan(engine) => of_plan(line, engine as u32),
         LineKind::Row => of_single(line, b"row", templates::ROW_RANGE, templates::ROW_SHAPE),
@@ -138,29 +199,4 @@ fn of_form(line: &[u8], form: LineKind) -> Say {
             templates::SPARE_SHAPE,
         ),
     }
-}
-
-pub fn of_line(line: &[u8], form: LineKind) -> Say {
-    if line.len() == 0 {
-        return say_only(templates::EMPTY_LINE);
-    }
-    if ends_in(line, CARRIAGE_RETURN) {
-        return say_only(templates::CARRIAGE_RETURN);
-    }
-    if same(until(line, 3), b"\xEF\xBB\xBF") {
-        return say_only(templates::BYTE_ORDER_MARK);
-    }
-    if part_at(line, 0, TAB).len() < line.len() {
-        return say_only(templates::TAB);
-    }
-    if has_two_spaces(line) {
-        return say_only(templates::TWO_SPACES);
-    }
-    if part_at(line, 0, SPACE).len() == 0 {
-        return say_only(templates::SPACE_AT_START);
-    }
-    if ends_in(line, SPACE) {
-        return say_only(templates::SPACE_AT_END);
-    }
-    of_form(line, form)
 }

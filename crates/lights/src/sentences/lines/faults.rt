@@ -11,9 +11,9 @@ use crate::sentences::tables::place_of;
 use crate::sentences::tables::ranges_of;
 use crate::sentences::tables::words_of;
 use crate::sentences::templates;
+use crate::texts::pieces::EQUALS_SIGN;
 use crate::texts::pieces::SPACE;
 use crate::texts::pieces::after;
-use crate::texts::pieces::key_of;
 use crate::texts::pieces::value_of;
 use grammar::DECISION;
 use text::Decimal;
@@ -25,17 +25,23 @@ use text_bytes::read_decimal;
 const KEY: u8 = 0;
 
 // The value can't be read.
-const MALFORMED: u8 = 1;
+pub(super) const MALFORMED: u8 = 1;
 
-const NOT_ALLOWED: u8 = 2;
+pub(super) const NOT_ALLOWED: u8 = 2;
 
-const ALLOWED: u8 = 3;
+pub(super) const ALLOWED: u8 = 3;
 
 // A word that is allowed, but not the first one of its kind.
 const OTHER_WORD: u8 = 4;
 
 // The kind of a yes or no. A line ends after one that isn't yes.
 const YES_OR_NO: u32 = DECISION as u32;
+
+// A rank, and what is said of the pair.
+pub(super) struct Fault {
+    pub rank: u8,
+    pub say: Say,
+}
 
 // How a pair is judged: its rank, and the sentence about its value.
 struct Judged {
@@ -98,7 +104,7 @@ fn judge_number(v: &[u8], r: Ranges) -> Judged {
 }
 
 fn judge_word(v: &[u8], words: Stretch) -> Judged {
-    if key_of(v).len() < v.len() {
+    if part_at(v, 0, EQUALS_SIGN).len() < v.len() {
         return NO_WORD;
     }
     let place = place_of(v, words.from, words.to);
@@ -112,7 +118,7 @@ fn judge_word(v: &[u8], words: Stretch) -> Judged {
 }
 
 fn judge(part: &[u8], pair: Pair) -> Judged {
-    if !is_name(key_of(part), pair.key) {
+    if !is_name(part_at(part, 0, EQUALS_SIGN), pair.key) {
         return OTHER_KEY;
     }
     let v = value_of(part);
@@ -126,11 +132,11 @@ fn judge(part: &[u8], pair: Pair) -> Judged {
 }
 
 // What is wrong with the parts of the line that begin at `from`: `keys` where the keys of the form don't
-// stand there, each in its place, and nothing else; `none` where nothing is wrong. After a yes or no that
-// is neither nothing more is judged.
-pub(super) fn fault_of(line: &[u8], from: usize, pairs: Stretch, keys: Say, none: Say) -> Say {
-    let mut least = ALLOWED;
-    let mut say = none;
+// stand there, each in its place, and nothing else; `before` where nothing is worse than that. After a yes
+// or no that is neither nothing more is judged.
+pub(super) fn fault_of(line: &[u8], from: usize, pairs: Stretch, keys: Say, before: Fault) -> Say {
+    let mut least = before.rank;
+    let mut say = before.say;
     let mut at = from;
     let mut i = pairs.from;
     while i < pairs.to {

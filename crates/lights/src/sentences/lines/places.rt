@@ -1,24 +1,16 @@
-// Lines that belong elsewhere: the plan decides which form a line has.
+// Lines that belong elsewhere: the plan decides which kind a line is of.
 use crate::sentences::say::Say;
 use crate::sentences::say::say_two;
 use crate::sentences::templates;
-use crate::texts::pieces::key_of;
+use crate::texts::pieces::EQUALS_SIGN;
 use crate::texts::pieces::place_of;
 use grammar::LineKind;
+use plan::Plan;
+use text_bytes::part_at;
 
-// The place of a form's key among those of the words' lines; past the last for the plan lines.
-fn place(form: LineKind) -> usize {
-    match form {
-        LineKind::Op => 0,
-        LineKind::Row => 1,
-        LineKind::Spare => 2,
-        LineKind::Plan(_) => 3,
-    }
-}
-
-// Whether a line begins as the line of a word, but not as one of this form.
-pub fn is_elsewhere(line: &[u8], form: LineKind) -> bool {
-    let key = key_of(line);
+// Whether a line begins as the line of a word, but not as one of this kind.
+pub fn is_elsewhere(line: &[u8], kind: LineKind) -> bool {
+    let key = part_at(line, 0, EQUALS_SIGN);
     if key.len() == line.len() {
         return false;
     }
@@ -26,16 +18,29 @@ pub fn is_elsewhere(line: &[u8], form: LineKind) -> bool {
     if begins == 3 {
         return false;
     }
-    begins != place(form)
+    // the plan lines have none of these keys
+    let own = match kind {
+        LineKind::Op => 0,
+        LineKind::Row => 1,
+        LineKind::Spare => 2,
+        LineKind::Plan(_) => 3,
+    };
+    begins != own
 }
 
-// What belongs where a line stands: at the word with this address, which is code or a row of this engine
-// or neither, by the form; or at an engine's plan line.
-pub fn of_place(form: LineKind, engine: u32, address: u32) -> Say {
-    match form {
-        LineKind::Op => say_two(templates::CODE_PLACE, address, engine),
-        LineKind::Plan(i) => say_two(templates::PLAN, i as u32, i as u32),
-        LineKind::Row => say_two(templates::ROW_PLACE, address, engine),
-        LineKind::Spare => say_two(templates::SPARE_PLACE, address, 0),
+// What belongs where line n stands, counted from 0: by the plan, a word of an engine or of none; or the
+// plan line of an engine.
+pub fn of_place(kind: LineKind, plan: Plan, n: u16) -> Say {
+    if n < 3 {
+        let engine = n as u32 + 1;
+        return say_two(templates::PLAN, engine, engine);
     }
+    let address = n - 3;
+    let engine = sheet_places::owner_at(plan, address) as u32;
+    let template = match kind {
+        LineKind::Row => templates::ROW_PLACE,
+        LineKind::Spare => templates::SPARE_PLACE,
+        LineKind::Op | LineKind::Plan(_) => templates::CODE_PLACE,
+    };
+    say_two(template, address as u32, engine)
 }

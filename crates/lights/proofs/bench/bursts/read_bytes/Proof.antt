@@ -8,10 +8,10 @@ use Rattle.lights.proofs.bench.bursts.read_bytes.Statement.{statement}
 use Rattle.lights.proofs.bench.bursts.read_bytes.Tie as tie
 
 abbrev Inv-loop : tie.InvT-loop
-Inv-loop line from first bytes₀ count₀ at₀ bytes count at = length bytes ≡ length bytes₀
+Inv-loop line from bytes₀ count₀ at₀ bytes count at = length bytes ≡ length bytes₀
 
 abbrev μ-loop : tie.MeasureT-loop
-μ-loop line from first bytes₀ count₀ at₀ bytes count at = length line + 1 - at
+μ-loop line from bytes₀ count₀ at₀ bytes count at = length line + 1 - at
 
 pub read-bytes-spec : {M : Type 1} → statement M
 read-bytes-spec =
@@ -22,6 +22,7 @@ read-bytes-spec =
     (λ c. search needs)
     (λ c κs. search needs)
     (λ c κs. search needs)
+    (λ c. search needs)
     (λ c. search needs)
     (λ c κs. search needs)
     (λ c. search needs)

@@ -7,10 +7,10 @@ use Rattle.lights.proofs.bench.state.put_counts.Statement.{statement}
 use Rattle.lights.proofs.bench.state.put_counts.Tie as tie
 
 abbrev Inv-loop : tie.InvT-loop
-Inv-loop out₀ at counts listed₀ address₀ out listed address = length out ≡ length out₀
+Inv-loop out₀ at counts next₀ template₀ address₀ out next template address = length out ≡ length out₀
 
 abbrev μ-loop : tie.MeasureT-loop
-μ-loop out₀ at counts listed₀ address₀ out listed address = 96 - address
+μ-loop out₀ at counts next₀ template₀ address₀ out next template address = 96 - address
 
 pub put-counts-spec : {M : Type 1} → statement M
 put-counts-spec =
@@ -21,12 +21,13 @@ put-counts-spec =
     (λ c. search needs)
     (λ c. search needs)
     (λ c. search needs)
+    (λ c. search needs)
+    (λ c. search needs)
     (λ c κs. search needs)
     (λ c. search needs)
     (λ c. search needs)
     (λ c. search needs)
+    (λ c. search needs)
     (λ c κs. search needs)
-    (λ c. search needs)
-    (λ c. search needs)
     (λ c. search needs)
     (λ c. search needs))

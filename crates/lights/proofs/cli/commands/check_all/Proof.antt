@@ -7,10 +7,10 @@ use Rattle.lights.proofs.cli.commands.check_all.Statement.{statement}
 use Rattle.lights.proofs.cli.commands.check_all.Tie as tie
 
 abbrev Inv-loop : tie.InvT-loop
-Inv-loop source line count bytes₀ status₀ read₀ k₀ bytes status read k = 4096 ≡ length bytes
+Inv-loop source line count bytes₀ image₀ status₀ dash₀ k₀ bytes image status dash k = (4096 ≡ length bytes) × (96 ≡ length image)
 
 abbrev μ-loop : tie.MeasureT-loop
-μ-loop source line count bytes₀ status₀ read₀ k₀ bytes status read k = count - k
+μ-loop source line count bytes₀ image₀ status₀ dash₀ k₀ bytes image status dash k = count - k
 
 pub check-all-spec : {M : Type 1} → statement M
 check-all-spec =
@@ -23,11 +23,15 @@ check-all-spec =
     (λ c κs. search needs)
     (λ c. search needs)
     (λ c κs. search needs)
+    (λ c. search needs)
     (λ c κs. search needs)
     (λ c κs. search needs)
     (λ c κs. search needs)
     (λ c. search needs)
-    (λ c κs. search needs)
+    (λ c. search needs)
+    (λ c. search needs)
+    (λ c. search needs)
+    (λ c. search needs)
     (λ c. search needs)
     (λ c. search needs)
     (λ c. search needs)

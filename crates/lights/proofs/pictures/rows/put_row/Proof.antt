@@ -7,10 +7,10 @@ use Rattle.lights.proofs.pictures.rows.put_row.Statement.{statement}
 use Rattle.lights.proofs.pictures.rows.put_row.Tie as tie
 
 abbrev Inv-loop : tie.InvT-loop
-Inv-loop out₀ at levels count k shades next₀ i₀ t12 out next i = length out ≡ length out₀
+Inv-loop out₀ at levels count k next₀ i₀ t10 out next i = length out ≡ length out₀
 
 abbrev μ-loop : tie.MeasureT-loop
-μ-loop out₀ at levels count k shades next₀ i₀ t12 out next i = count - i
+μ-loop out₀ at levels count k next₀ i₀ t10 out next i = count - i
 
 pub put-row-spec : {M : Type 1} → statement M
 put-row-spec =

@@ -1,5 +1,5 @@
 -- `lights::sentences::filling::fill` is safe and ends.
-use Prim.Native.Nat.{_<_, _-_}
+use Prim.Native.Nat.{_-_, _<_}
 use mathlib.Core.Path.{_≡_}
 use borrow.Author.Needs.{needs}
 use lib.ListN.{length}
@@ -7,10 +7,10 @@ use Rattle.lights.proofs.sentences.filling.fill.Statement.{statement}
 use Rattle.lights.proofs.sentences.filling.fill.Tie as tie
 
 abbrev Inv-loop : tie.InvT-loop
-Inv-loop out₀ at template quote name numbers next₀ place₀ i₀ out next place i = (length out ≡ length out₀) × (place < 8)
+Inv-loop out₀ at table place quote name numbers template next₀ number₀ i₀ out next number i = (length out ≡ length out₀) × (number < 8)
 
 abbrev μ-loop : tie.MeasureT-loop
-μ-loop out₀ at template quote name numbers next₀ place₀ i₀ out next place i = length template - i
+μ-loop out₀ at table place quote name numbers template next₀ number₀ i₀ out next number i = length template - i
 
 pub fill-spec : {M : Type 1} → statement M
 fill-spec =
@@ -18,6 +18,7 @@ fill-spec =
     (tie.spec
     Inv-loop
     μ-loop
+    (λ c κs. search needs)
     (λ c. search needs)
     (λ c. search needs)
     (λ c. search needs)

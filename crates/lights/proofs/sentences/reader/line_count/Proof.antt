@@ -20,7 +20,9 @@ line-count-spec =
     μ-loop
     (λ c. search needs)
     (λ c κs. search needs)
-    (λ c κs. search needs)
+    (λ c. search needs)
+    (λ c. omega (arith, c .before .after .ensures (omega arith)))
+    (λ c. search needs)
     (λ c. omega (arith, c .before .after .ensures (omega arith)))
     (λ c. search needs)
     (λ c. search needs))

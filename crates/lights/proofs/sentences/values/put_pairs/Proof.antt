@@ -7,10 +7,10 @@ use Rattle.lights.proofs.sentences.values.put_pairs.Statement.{statemen
 use Rattle.lights.proofs.sentences.values.put_pairs.Tie as tie
 
 abbrev Inv-loop : tie.InvT-loop
-Inv-loop out₀ at op style values pairs next₀ i₀ out next i = length out ≡ length out₀
+Inv-loop out₀ at op style pairs next₀ i₀ out next i = length out ≡ length out₀
 
 abbrev μ-loop : tie.MeasureT-loop
-μ-loop out₀ at op style values pairs next₀ i₀ out next i = pairs .to - i
+μ-loop out₀ at op style pairs next₀ i₀ out next i = pairs .to - i
 
 pub put-pairs-spec : {M : Type 1} → statement M
 put-pairs-spec =
@@ -25,6 +25,9 @@ put-pairs-spec =
     (λ c κs. search needs)
     (λ c κs. search needs)
     (λ c κs. search needs)
+    (λ c. search needs)
+    (λ c κs. search needs)
+    (λ c. search needs)
     (λ c. search needs)
     (λ c. search needs)
     (λ c. search needs)

@@ -1,10 +1,10 @@
--- `assembler::refusals::refusal_at` meets its contract.
+-- `assembler::answers::refusal_at` meets its contract.
 use Prim.Native.Nat.{ℕ}
 use mathlib.Core.Path.{_≡_, sym, ap}
 use native.Mathlib.Omega.{arith}
 use Rattle.asm.specs.Reading.{refused-at}
-use Rattle.assembler.proofs.refusals.refusal_at.Statement.{statement}
-use Rattle.assembler.proofs.refusals.refusal_at.Tie as tie
+use Rattle.assembler.proofs.answers.refusal_at.Statement.{statement}
+use Rattle.assembler.proofs.answers.refusal_at.Tie as tie
 
 -- the last of the three, where it is neither of the others
 returns-3 : tie.Need-returns-3

@@ -1,12 +1,12 @@
--- `assembler::refusals::unended` meets its contract.
+-- `assembler::answers::unended` meets its contract.
 use Prim.Native.Nat.{ℕ}
 use mathlib.Core.List.{List, [], _∷_}
 use mathlib.Core.Path.{_≡_, refl}
 use native.Mathlib.Omega.{arith}
 use lib.ListN.{length}
 use Rattle.asm.specs.Reading.{refused-at, unended}
-use Rattle.assembler.proofs.refusals.unended.Statement.{statement}
-use Rattle.assembler.proofs.refusals.unended.Tie as tie
+use Rattle.assembler.proofs.answers.unended.Statement.{statement}
+use Rattle.assembler.proofs.answers.unended.Tie as tie
 
 no-line : (p : List ℕ) (l : ℕ) → length p ≡ 0 → refused-at 23 0 ≡ unended p l
 no-line [] l e = refl
