@@ -64,5 +64,5 @@ pub(super) fn command(name: &[u8]) {
         print::text(b": unknown");
         return;
     }
-    print::say(b": $", &[count(question)]);
+    print::say(b": $", [count(question), 0, 0, 0]);
 }
