@@ -6,13 +6,12 @@ use crate::pieces::until;
 use grammar::FORM_AT;
 use grammar::NAME_AT;
 use grammar::NAMES;
-use grammar::WORD_FIRST;
 use text_bytes::part_at;
 use text_bytes::same;
 ghost use Prim.Native.Nat.{_<_};
 
 // The ops come first among the grammar's names.
-pub const OPS: u16 = WORD_FIRST[0] as u16;
+pub const OPS: u16 = grammar::OPS as u16;
 
 // The place of a name among names with a space between; past the last for another name.
 pub fn place_of(table: &[u8], name: &[u8]) -> usize {

@@ -81,6 +81,6 @@ pub fn command(line: &[u8]) {
     let a = refusals::report_of(checked(plan, &image, whole));
     print::say(
         b": $ $ $",
-        &[a.number as u32, a.engine as u32, a.address as u32],
+        [a.number as u32, a.engine as u32, a.address as u32, 0],
     );
 }

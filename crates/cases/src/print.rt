@@ -5,6 +5,7 @@ use text_bytes::put_bytes;
 use text_bytes::put_decimal;
 ghost use Prim.Native.Nat.{_+_, _<_, _≤_};
 
+// The marks of a template: a decimal number, four hexadecimal digits, two bits.
 pub const DECIMAL: u8 = b'$';
 
 pub const HEX: u8 = b'#';
@@ -47,13 +48,6 @@ fn put_bits(out: &mut [u8], at: usize, n: u32) -> usize {
     put_bytes(out, at, &digits)
 }
 
-fn is_mark(b: u8) -> bool {
-    match b {
-        DECIMAL | HEX | BITS => true,
-        _ => false,
-    }
-}
-
 // A byte of a template: a mark, for the number, or another byte.
 fn put_next(out: &mut [u8], at: usize, b: u8, n: u32) -> usize {
     match b {
@@ -64,9 +58,9 @@ fn put_next(out: &mut [u8], at: usize, b: u8, n: u32) -> usize {
     }
 }
 
-// The number at a place; 0 if there is none.
-fn number_at(numbers: &[u32], place: usize) -> u32 {
-    if place < numbers.len() {
+// The number at a place; 0 past the last.
+fn number_at(numbers: [u32; 4], place: usize) -> u32 {
+    if place < 4 {
         return numbers[place];
     }
     0
@@ -77,14 +71,14 @@ fn next_place(place: usize, b: u8, end: usize) -> usize
     requires { ⌜ place < end ⌝ }
     ensures { λ r. ⌜ r ≤ place + 1 ⌝ }
 {
-    if is_mark(b) {
-        return place + 1;
+    match b {
+        DECIMAL | HEX | BITS => place + 1,
+        _ => place,
     }
-    place
 }
 
 // A template with the numbers in place of its marks.
-fn put_filled(out: &mut [u8], template: &[u8], numbers: &[u32]) -> usize {
+fn put_filled(out: &mut [u8], template: &[u8], numbers: [u32; 4]) -> usize {
     let mut end = 0;
     let mut place = 0;
     let mut i = 0;
@@ -97,8 +91,8 @@ fn put_filled(out: &mut [u8], template: &[u8], numbers: &[u32]) -> usize {
     end
 }
 
-// Templates are short.
-pub fn say(template: &[u8], numbers: &[u32]) {
+// A template has at most four marks, and is short.
+pub fn say(template: &[u8], numbers: [u32; 4]) {
     let mut out = [0u8; 256];
     let end = put_filled(&mut out, template, numbers);
     text(until(&out, end));

@@ -1,7 +1,6 @@
 // Words, encoded and decoded. A line is a code, or an op's name and its operands in the order of the
 // sheet line, up as 0 and A as 0; or `count`, and what codes are counted by.
 mod counts;
-mod values;
 
 use crate::names::OPS;
 use crate::names::is_name;
@@ -16,13 +15,15 @@ use crate::pieces::until;
 use crate::print;
 use grammar::NAMES;
 use grammar::Values;
+use op_codec::values_of;
+use op_codec::word_of;
 use text_bytes::same;
-use values::values_of;
-use values::word_of;
 use word::Coded;
 use word::Word;
 
+// A word's op and its operands.
 fn print_word(w: Word) {
+    print::text(b": ");
     let v = values_of(w);
     let op = v.a;
     if op >= OPS {
@@ -32,24 +33,20 @@ fn print_word(w: Word) {
     print::text(op_name(&NAMES, op));
     print::say(
         until(b" $ $ $ $", operands(op) * 2),
-        &[v.b as u32, v.c as u32, v.d as u32, v.e as u32],
+        [v.b as u32, v.c as u32, v.d as u32, v.e as u32],
     );
-}
-
-fn decoded(code: u16) {
-    print::text(b": ");
-    print_word(decoder::decode(code));
 }
 
 // The word's code, or its refusal as document 01 numbers it.
 fn encoded(w: Word) {
     match encoder::encode(w) {
-        Coded::Code(code) => print::say(b": #", &[code as u32]),
+        Coded::Code(code) => print::say(b": #", [code as u32, 0, 0, 0]),
         Coded::OutsideField => print::text(b": refused 22"),
         Coded::UndefinedWord => print::text(b": refused 13"),
     }
 }
 
+// The word of an op, with its operands in a text.
 fn word_in(op: u16, parts: &[u8]) -> Word {
     let n = numbers::read(parts, 0, Base::Decimal);
     word_of(Values {
@@ -66,7 +63,8 @@ fn word_in(op: u16, parts: &[u8]) -> Word {
 pub fn command(line: &[u8]) {
     let name = first(line);
     if !is_name(name) {
-        decoded(numbers::at_most(numbers::number(name, Base::Hex), 65535) as u16);
+        let code = numbers::at_most(numbers::number(name, Base::Hex), 65535) as u16;
+        print_word(decoder::decode(code));
         return;
     }
     if same(name, b"count") {

@@ -17,7 +17,7 @@ use machine::Written;
 // A burst: the number that it answers.
 fn answered(written: Written) -> Chip {
     let outcome = written.outcome;
-    print::say(b" answer=$", &[refusals::number_of(outcome) as u32]);
+    print::say(b" answer=$", [refusals::number_of(outcome) as u32, 0, 0, 0]);
     written.chip
 }
 
@@ -28,7 +28,7 @@ fn ran(m: Chip, beats: u32) -> Chip {
     refusal(outcome);
     print::say(
         b" beats=$ words=$,$,$",
-        &[r.beats, r.words[0], r.words[1], r.words[2]],
+        [r.beats, r.words[0], r.words[1], r.words[2]],
     );
     r.chip
 }
@@ -42,7 +42,7 @@ fn ticked(m: Chip, pulse: bool) -> Chip {
     let t = chip::tick(m, pulse);
     print::say(
         b" ended=$,$,$ pin=$",
-        &[
+        [
             flag(t.ended[0]),
             flag(t.ended[1]),
             flag(t.ended[2]),
@@ -57,7 +57,7 @@ fn interrupts(m: Chip) -> Chip {
     let r = chip::read_interrupts(m);
     print::say(
         b" interrupts=$,$,$",
-        &[flag(r.flags[0]), flag(r.flags[1]), flag(r.flags[2])],
+        [flag(r.flags[0]), flag(r.flags[1]), flag(r.flags[2]), 0],
     );
     r.chip
 }

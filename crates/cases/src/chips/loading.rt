@@ -14,7 +14,7 @@ ghost use Prim.Native.Nat.{_<_};
 pub fn refusal(outcome: Outcome) {
     let n = refusals::number_of(outcome);
     if n != 0 {
-        print::say(b" refused=$", &[n as u32]);
+        print::say(b" refused=$", [n as u32, 0, 0, 0]);
     }
 }
 

@@ -71,25 +71,32 @@ fn level_of(output: Output) -> u32 {
 
 // D1 to D9, then the GPO.
 fn print_levels(m: Chip) {
-    print::say(b"$", &[level_of(m.outputs[0])]);
+    print::say(b"$", [level_of(m.outputs[0]), 0, 0, 0]);
     let mut k: usize = 1;
     while k < 10 {
-        print::say(b",$", &[level_of(m.outputs[k])]);
+        print::say(b",$", [level_of(m.outputs[k]), 0, 0, 0]);
         k += 1;
     }
 }
 
-fn word_at(m: Chip, at: usize) -> u32
+// What is seen of the chip.
+fn of_chip(m: Chip, view: View, at: usize) -> u32
     requires { ⌜ at < 96 ⌝ }
 {
-    m.memory[at] as u32
+    match view {
+        View::C => m.c as u32,
+        View::D => m.d as u32,
+        View::Page => m.page as u32,
+        View::Enabled => flag(m.enabled),
+        _ => m.memory[at] as u32,
+    }
 }
 
 // The mark that a view's numbers are printed by.
 fn mark_of(view: View) -> u8 {
     match view {
         View::Mode | View::Setting => BITS,
-        View::Mask => HEX,
+        View::Mask | View::Word => HEX,
         _ => DECIMAL,
     }
 }
@@ -101,10 +108,11 @@ fn print_engines(m: Chip, view: View, at: usize)
     let mark = mark_of(view);
     print::say(
         &[mark, b',', mark, b',', mark],
-        &[
+        [
             of_engine(m.engines[0], view, at),
             of_engine(m.engines[1], view, at),
             of_engine(m.engines[2], view, at),
+            0,
         ],
     );
 }
@@ -118,11 +126,9 @@ pub fn shown(m: Chip, name: &[u8], at: usize)
     print::text(name);
     print::text(b"=");
     match view {
-        View::C => print::say(b"$", &[m.c as u32]),
-        View::D => print::say(b"$", &[m.d as u32]),
-        View::Page => print::say(b"$", &[m.page as u32]),
-        View::Enabled => print::say(b"$", &[flag(m.enabled)]),
-        View::Word => print::say(b"#", &[word_at(m, at)]),
+        View::C | View::D | View::Page | View::Enabled | View::Word => {
+            print::say(&[mark_of(view)], [of_chip(m, view, at), 0, 0, 0]);
+        }
         View::Levels => print_levels(m),
         View::Unknown => print::text(b"unknown"),
         _ => print_engines(m, view, at),

@@ -47,11 +47,14 @@ fn print_again(code: u16, line: &[u8]) {
 
 pub fn read(line: &[u8]) {
     let read = op_codec::assemble_line(line);
-    print::say(b": number=$", &[refusals::op_line_number_of(read) as u32]);
+    print::say(
+        b": number=$",
+        [refusals::op_line_number_of(read) as u32, 0, 0, 0],
+    );
     let WordLine::Code(code) = read else {
         return;
     };
-    print::say(b" code=#", &[code as u32]);
+    print::say(b" code=#", [code as u32, 0, 0, 0]);
     print_again(code, line);
 }
 
@@ -61,7 +64,7 @@ pub fn write(code: u16, room: usize) {
     let end = length_of(written);
     print::say(
         b": number=$ code=#",
-        &[written_number(written) as u32, code as u32],
+        [written_number(written) as u32, code as u32, 0, 0],
     );
     print::either(bytes_kept(&out, end), b" rest=kept ", b" rest=changed ");
     print::text(until(&out, end));

@@ -59,7 +59,7 @@ fn print_engine(q: EnginePlan) {
     match q {
         EnginePlan::Unused => print::text(b" unused,"),
         EnginePlan::Code { first, last } => {
-            print::say(b" code $ $,", &[first.0 as u32, last.0 as u32]);
+            print::say(b" code $ $,", [first.0 as u32, last.0 as u32, 0, 0]);
         }
         EnginePlan::CodeAndTable {
             first,
@@ -68,7 +68,7 @@ fn print_engine(q: EnginePlan) {
             bottom,
         } => print::say(
             b" table $ $ $ $,",
-            &[first.0 as u32, last.0 as u32, top.0 as u32, bottom.0 as u32],
+            [first.0 as u32, last.0 as u32, top.0 as u32, bottom.0 as u32],
         ),
     }
 }
@@ -84,7 +84,7 @@ fn print_plan(plan: Plan) {
 
 fn print_word(at: u32, code: u16) {
     if code != 0 {
-        print::say(b" $=#", &[at, code as u32]);
+        print::say(b" $=#", [at, code as u32, 0, 0]);
     }
 }
 

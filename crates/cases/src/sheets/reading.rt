@@ -19,7 +19,7 @@ pub fn read(s: State, sheet: &[u8]) -> State {
     let mut lent = [FILL_WORD; 100];
     let read = called(until(sheet, s.sheet), &mut lent, s.words);
     let a = refusals::line_report_of(read);
-    print::say(b": number=$ line=$", &[a.number as u32, a.line as u32]);
+    print::say(b": number=$ line=$", [a.number as u32, a.line as u32, 0, 0]);
     print::either(words_kept(&lent), b" image=kept", b" image=changed");
     let Assembled::Program(plan) = read else {
         return s;

@@ -34,7 +34,7 @@ pub fn write(s: State, sheet: &[u8]) {
     let a = refusals::written_report_of(written);
     print::say(
         b": number=$ engine=$ address=$ length=",
-        &[a.number as u32, a.engine as u32, a.address as u32],
+        [a.number as u32, a.engine as u32, a.address as u32, 0],
     );
     print::size(end);
     print::either(bytes_kept(&out, end), b" rest=kept", b" rest=changed");

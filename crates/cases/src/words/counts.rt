@@ -1,9 +1,9 @@
 // Of how many of the 65,536 codes something holds.
-use super::values::values_of;
 use crate::names::OPS;
 use crate::names::op_named;
 use crate::names::place_of;
 use crate::print;
+use op_codec::values_of;
 use word::Coded;
 
 enum Question {
@@ -64,5 +64,5 @@ pub(super) fn command(name: &[u8]) {
         print::text(b": unknown");
         return;
     }
-    print::say(b": $", &[count(question)]);
+    print::say(b": $", [count(question), 0, 0, 0]);
 }
