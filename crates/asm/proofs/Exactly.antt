@@ -11,7 +11,8 @@ use borrow.Author.Tests.{ltb-true, ltb-false}
 use Rattle.laws.proofs.Tests.{by-test}
 use Rattle.word.specs.Profile.{Profile}
 use Rattle.asm.specs.Reading.{Sheet, refused-at, readSheet}
-use Rattle.asm.specs.Conditions.{Line, linesOf, planSaid, numberAt, lineCount, GoodTo, FirstBad, GoodLines, RefusesExactly, PlanOrdered, PlanApart}
+use Rattle.asm.specs.Theorems.{RefusesExactly}
+use Rattle.asm.specs.Conditions.{Line, linesOf, planSaid, numberAt, lineCount, GoodTo, FirstBad, GoodLines, PlanOrdered, PlanApart}
 use Rattle.asm.specs.Answers.{numberIn, lineIn}
 use Rattle.asm.proofs.Steps.{never}
 use Rattle.asm.proofs.Outcome.{Outcome, bad, miscounted, out-of-order, code-meets-table, is-read, sheet-outcome}

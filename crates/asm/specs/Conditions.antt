@@ -3,7 +3,6 @@
 use Prim.Native.Nat.{ℕ, zero, suc, _+_, _-_, _<_}
 use mathlib.Core.Bool.{cond}
 use mathlib.Core.List.{List, [], _∷_}
-use mathlib.Core.Logic.{_↔_, _⊎_}
 use mathlib.Core.Path.{_≡_}
 use lib.Dec.{ltb}
 use lib.ListN.{length, getD}
@@ -20,7 +19,7 @@ use Rattle.grammar.specs.Form.{Reading, values, refused}
 use Rattle.grammar.specs.Grammar.{readLine}
 use Rattle.asm.specs.Places.{lineKindAt}
 use Rattle.asm.specs.PlanLines.{planOf, enginePlanOf}
-use Rattle.asm.specs.Reading.{readWordLine, refused-at, readSheet}
+use Rattle.asm.specs.Reading.{readWordLine}
 
 -- A line of a text: ended by its LF, or cut off by the text's end.
 pub data Line : Type 0 where
@@ -101,17 +100,3 @@ PlanApart P p = (i : ℕ) → Condition P p [] (CodeMeetsTable i)
 -- All lines are good, and there are as many as there have to be.
 abbrev pub GoodLines : Profile → List Line → Type 0
 GoodLines P ls = GoodTo P ls (lineCount P) × (length ls ≡ lineCount P)
-
--- Each refusal is given exactly where its condition holds and no earlier line's or lower number's does.
-pub record Exactly (P : Profile) (text : List ℕ) : Type 0 where
-  pub line : (k n : ℕ) → (readSheet P text ≡ refused-at n (k + 1)) ↔ FirstBad P (linesOf text) k n
-  pub is23 : (readSheet P text ≡ refused-at 23 0) ↔ (GoodTo P (linesOf text) (lineCount P) × (length (linesOf text) ≡ lineCount P → ⊥))
-  pub is11 : (readSheet P text ≡ refused-at 11 0) ↔ (GoodLines P (linesOf text) × (PlanOrdered P (planSaid P (linesOf text)) → ⊥))
-  pub is12 :
-      (readSheet P text ≡ refused-at 12 0)
-      ↔ (GoodLines P (linesOf text) × PlanOrdered P (planSaid P (linesOf text)) × (PlanApart P (planSaid P (linesOf text)) → ⊥))
-  pub others : (n : ℕ) → readSheet P text ≡ refused-at n 0 → (n ≡ 23) ⊎ ((n ≡ 11) ⊎ (n ≡ 12))
-
--- 3. The reader's refusals are exactly the paper's.
-abbrev pub RefusesExactly : Type 0
-RefusesExactly = (P : Profile) (text : List ℕ) → Exactly P text

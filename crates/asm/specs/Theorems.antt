@@ -1,7 +1,7 @@
 -- What is promised of sheets. The proofs are in proofs/Theorems.antt, of WordsInLines in proofs/WordLines.antt.
 use Prim.Native.Nat.{ℕ, _+_, _≤_}
 use mathlib.Core.List.{List, []}
-use mathlib.Core.Logic.{_↔_}
+use mathlib.Core.Logic.{_↔_, _⊎_}
 use mathlib.Core.Path.{_≡_}
 use lib.ListN.{length, getD}
 use Rattle.word.specs.Profile.{Profile, wordsOf, enginesOf}
@@ -14,7 +14,7 @@ use Rattle.asm.specs.declared.Disassembled.the-variants.{Length}
 use Rattle.asm.specs.Places.{lineKindAt, lineOf}
 use Rattle.asm.specs.Reading.{program, refused-at, readSheet, assembleOf}
 use Rattle.asm.specs.Writing.{sheetOf, disassembleOf}
-use Rattle.asm.specs.Conditions.{cut, linesOf, planSaid, wordLineNumber, numberAt, FirstBad}
+use Rattle.asm.specs.Conditions.{cut, linesOf, planSaid, wordLineNumber, numberAt, FirstBad, lineCount, GoodTo, GoodLines, PlanOrdered, PlanApart}
 
 -- 1. A sheet that is read without refusal is written again as the same bytes, given room.
 abbrev pub SheetAgain : Type 0
@@ -28,7 +28,19 @@ ProgramAgain =
     (P : Profile) (image : List ℕ) (p : Plan) (room n : ℕ) → ((a : ℕ) → getD image a 0 ≤ 65535) → disassembleOf P p image room ≡ Length n
     → assembleOf P (wordsOf P) (sheetOf P p image) ≡ program p image
 
--- 3 is RefusesExactly in Conditions.antt.
+-- Each refusal is given exactly where its condition holds and no earlier line's or lower number's does.
+pub record Exactly (P : Profile) (text : List ℕ) : Type 0 where
+  pub line : (k n : ℕ) → (readSheet P text ≡ refused-at n (k + 1)) ↔ FirstBad P (linesOf text) k n
+  pub is23 : (readSheet P text ≡ refused-at 23 0) ↔ (GoodTo P (linesOf text) (lineCount P) × (length (linesOf text) ≡ lineCount P → ⊥))
+  pub is11 : (readSheet P text ≡ refused-at 11 0) ↔ (GoodLines P (linesOf text) × (PlanOrdered P (planSaid P (linesOf text)) → ⊥))
+  pub is12 :
+      (readSheet P text ≡ refused-at 12 0)
+      ↔ (GoodLines P (linesOf text) × PlanOrdered P (planSaid P (linesOf text)) × (PlanApart P (planSaid P (linesOf text)) → ⊥))
+  pub others : (n : ℕ) → readSheet P text ≡ refused-at n 0 → (n ≡ 23) ⊎ ((n ≡ 11) ⊎ (n ≡ 12))
+
+-- 3. The reader's refusals are exactly the paper's.
+abbrev pub RefusesExactly : Type 0
+RefusesExactly = (P : Profile) (text : List ℕ) → Exactly P text
 
 -- 4. A sheet that is read satisfies 9, 11 and 12, and every code word in it is defined, so that 13 is not given either.
 pub record Sound (P : Profile) (p : Plan) (image : List ℕ) : Type 0 where

@@ -12,7 +12,7 @@ use Rattle.grammar.specs.declared.Values.{Values}
 use Rattle.grammar.specs.declared.LineRead.the-variants.{Read, Refused}
 use Rattle.grammar.specs.Form.{Reading, values, refused}
 use Rattle.grammar.specs.Grammar.{readLine}
-use Rattle.grammar.specs.Tables.{valuesOf, listOf, lineReadOf}
+use Rattle.grammar.specs.Values.{valuesOf, listOf, lineReadOf}
 use Rattle.op_lines.proofs.Answered.{refused-as}
 use Rattle.asm.specs.PlanLines.{enginePlanOf}
 use Rattle.asm.specs.Reading.{Sheet, refused-at, plainWord, withValues, withWord}

@@ -19,7 +19,7 @@ use Rattle.grammar.specs.Grammar.{readLine}
 use Rattle.asm.specs.Places.{lineKindAt}
 use Rattle.asm.specs.PlanLines.{enginePlanOf}
 use Rattle.asm.specs.Reading.{Sheet, refused-at, readWordLine, unended, ranged, closed, withValues, withWord, readWords, readPlans}
-use Rattle.assembler.specs.Walks.{linesFrom}
+use Rattle.assembler.specs.internal.Walks.{linesFrom}
 
 -- there is always a part, be it an empty one
 one-more : (text : List ℕ) (at : ℕ) (F : List (List ℕ) → Type 0) → ((q : List ℕ) (ps : List (List ℕ)) → F (q ∷ ps)) → F (linesFrom at text)

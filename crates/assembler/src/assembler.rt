@@ -21,7 +21,7 @@ ghost use Rattle.asm.specs.declared.Assembled.{Assembled};
 ghost use Rattle.assembler.specs.declared.PlanLine.the-variants.{Refused};
 ghost use Rattle.asm.specs.Answers.{readingOf};
 ghost use Rattle.asm.specs.Reading.{ranged, readWords, readSheet, assembleOf, imageAfter};
-ghost use Rattle.assembler.specs.Walks.{linesFrom};
+ghost use Rattle.assembler.specs.internal.Walks.{linesFrom};
 
 // 11 and 12.
 fn judged(plan: Plan) -> Assembled

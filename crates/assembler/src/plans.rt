@@ -14,10 +14,10 @@ ghost use Prim.Native.Nat.{ℕ, suc, _≤_};
 ghost use lib.ListN.{length};
 ghost use Rattle.word.specs.Profile.{LP5523};
 ghost use Rattle.plan.specs.declared.EnginePlan.{EnginePlan};
-ghost use Rattle.grammar.specs.Tables.{listOf};
+ghost use Rattle.grammar.specs.Values.{listOf};
 ghost use Rattle.asm.specs.PlanLines.{enginePlanOf};
 ghost use Rattle.asm.specs.Reading.{readPlans};
-ghost use Rattle.assembler.specs.Walks.{linesFrom, thenPlans, Within};
+ghost use Rattle.assembler.specs.internal.Walks.{linesFrom, thenPlans, Within};
 
 // An engine's plan, from the values of its plan line.
 pub fn engine_plan(v: Values) -> EnginePlan

@@ -12,7 +12,7 @@ ghost use Rattle.word.specs.Profile.{LP5523};
 ghost use Rattle.grammar.specs.Grammar.{readLine};
 ghost use Rattle.op_lines.specs.Lines.{assembleLineOf};
 ghost use Rattle.asm.specs.Reading.{Sheet, plainWord, readWordLine, withWord};
-ghost use Rattle.assembler.specs.Walks.{thenWord};
+ghost use Rattle.assembler.specs.internal.Walks.{thenWord};
 
 fn op_word(part: &[u8], line: u16) -> WordRead
     ensures { λ r. ⌜ ((f : ℕ → Sheet) (ws : List ℕ) → thenWord r f ws ≡ withWord (assembleLineOf LP5523 (now (part .entry))) line f) ⌝ }

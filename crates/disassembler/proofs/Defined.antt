@@ -23,7 +23,7 @@ use Rattle.plan.proofs.Laws.{scan-refused, scan-passed, scan-end}
 use Rattle.plan.proofs.Passes.{append, three, scanned}
 use Rattle.plan.proofs.Tests.{tests-exactly}
 use Rattle.asm.specs.Writing.{undefinedAt, writableOf}
-use Rattle.disassembler.specs.Walks.{definedFrom, engineDefined, planDefined}
+use Rattle.disassembler.specs.internal.Walks.{definedFrom, engineDefined, planDefined}
 use Rattle.asm.proofs.Writable.{map-joined, ranges-exactly}
 
 -- the words from a to l: one step of the loop, and its end

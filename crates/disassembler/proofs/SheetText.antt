@@ -25,13 +25,13 @@ use Rattle.grammar.specs.declared.LineKind.the-variants as kind
 use Rattle.grammar.proofs.LineKind.{the-type}
 use Rattle.grammar.specs.Form.{continued, writeForm}
 use Rattle.grammar.specs.Grammar.{planForm, wordForm, writeParts, writeLine}
-use Rattle.grammar.specs.Tables.{valuesOf, listOf}
+use Rattle.grammar.specs.Values.{valuesOf, listOf}
 use Rattle.op_lines.specs.Lines.{over}
 use Rattle.asm.specs.declared.Disassembled.the-variants.{Length, Refused, TooShort}
 use Rattle.asm.specs.Places.{inTable, anyHas, lineKindAt}
 use Rattle.asm.specs.PlanLines.{planValues}
 use Rattle.asm.specs.Writing.{wordLine, planLines, wordLines, ended, sheetOf, writableOf, disassembleOf, bytesAfter}
-use Rattle.disassembler.specs.Walks.{IsWordLine}
+use Rattle.disassembler.specs.internal.Walks.{IsWordLine}
 
 -- ---- lines
 

@@ -10,7 +10,7 @@ ghost use Rattle.text.specs.Put.{Put};
 ghost use Rattle.word.specs.Profile.{LP5523};
 ghost use Rattle.grammar.specs.declared.LineKind.the-variants.{Plan};
 ghost use Rattle.grammar.specs.Grammar.{writeLine};
-ghost use Rattle.grammar.specs.Tables.{valuesOf};
+ghost use Rattle.grammar.specs.Values.{valuesOf};
 ghost use Rattle.asm.specs.PlanLines.{planValues};
 
 fn seven(a: u16, b: u16, c: u16, d: u16, e: u16, f: u16, g: u16) -> Values

@@ -11,7 +11,7 @@ ghost use Prim.Native.Nat.{_+_, _-_, _<_};
 ghost use lib.ListN.{length};
 ghost use Rattle.word.specs.Profile.{LP5523};
 ghost use Rattle.plan.specs.Tests.{inOrder};
-ghost use Rattle.disassembler.specs.Walks.{definedFrom, engineDefined, planDefined};
+ghost use Rattle.disassembler.specs.internal.Walks.{definedFrom, engineDefined, planDefined};
 
 // The first undefined word from `first` to `last`.
 fn first_undefined(engine: u16, first: u16, last: u16, image: &[u16]) -> Verdict

@@ -11,7 +11,7 @@ ghost use Rattle.text.specs.Bytes.{lineFeed};
 ghost use Rattle.text.specs.Put.{Put};
 ghost use Rattle.word.specs.Profile.{LP5523};
 ghost use Rattle.asm.specs.Writing.{wordLine, wordLines, ended};
-ghost use Rattle.disassembler.specs.Walks.{IsWordLine};
+ghost use Rattle.disassembler.specs.internal.Walks.{IsWordLine};
 
 // Writes a word's line with its LF.
 fn put_word(out: &mut [u8], at: usize, kind: LineKind, code: u16) -> usize

@@ -15,7 +15,8 @@ use Rattle.grammar.specs.declared.LineKind.{LineKind}
 use Rattle.grammar.specs.declared.LineKind.the-variants.{Op, Plan, Row, Spare}
 use Rattle.grammar.specs.Form.{Kind, number, keyword, decision, Pair, Reading, placeOf, readKeyword, readValue, readPair, followed, readForm}
 use Rattle.grammar.specs.Grammar.{opLines, planForm, opNames, opForm, wordForm, named, readOp, readParts}
-use Rattle.grammar.specs.Conditions.{among, shaped, Onward, WellFormed, fitting, goesOn, SomeOutside, Named, form, none, AfterName, IsUnknown, OutsideAfter, OpWellFormed, OpUnknown, OpOutside, LineWellFormed, LineUnknown, LineOutside, Has16Bits}
+use Rattle.grammar.specs.Theorems.{Has16Bits}
+use Rattle.grammar.specs.Conditions.{among, shaped, Onward, WellFormed, fitting, goesOn, SomeOutside, Named, form, none, AfterName, IsUnknown, OutsideAfter, OpWellFormed, OpUnknown, OpOutside, LineWellFormed, LineUnknown, LineOutside}
 use Rattle.grammar.proofs.Judged.{Judged, refuses20, refuses21, in-words, besides, end-judged, unknown-judged, number-before, before-judged, decided-judged}
 use Rattle.grammar.proofs.Low.{lowKind, lowForm, number-is, low-op, low-plan, low-word}
 use Rattle.grammar.proofs.Spots.{spot, keyword-is, form-named}

@@ -6,7 +6,8 @@ use native.Mathlib.Omega.{arith}
 use Rattle.text.specs.Bytes.{space, split}
 use Rattle.grammar.specs.Form.{Reading, refused}
 use Rattle.grammar.specs.Grammar.{readLine}
-use Rattle.grammar.specs.Conditions.{LineWellFormed, LineUnknown, LineOutside, Exactly, RefusesExactly}
+use Rattle.grammar.specs.Theorems.{Exactly, RefusesExactly}
+use Rattle.grammar.specs.Conditions.{LineWellFormed, LineUnknown, LineOutside}
 use Rattle.grammar.proofs.Steps.{refused-values}
 use Rattle.grammar.proofs.Judged.{Judged, passes, refuses20, refuses21, refuses22}
 use Rattle.grammar.proofs.Conform.{line-judged}

@@ -20,7 +20,7 @@ use Rattle.word.specs.Profile.{Range, _to_}
 use Rattle.grammar.specs.declared.Value.{Value}
 use Rattle.grammar.specs.declared.Value.the-variants.{Number, Malformed, Outside}
 use Rattle.grammar.specs.Form.{Kind, number, keyword, decision, Pair, held, readKeyword, readValue}
-use Rattle.grammar.specs.Tables.{numberKinds, kindCount, decisionKind, pairCount, kindAt, rangesIn, rangesAt, pairAt, stopsAt}
+use Rattle.grammar.specs.internal.Tables.{numberKinds, kindCount, decisionKind, pairCount, kindAt, rangesIn, rangesAt, pairAt, stopsAt}
 use Rattle.grammar.proofs.Value as values
 use Rattle.grammar.proofs.Tables.{low, high, alsoLow, alsoHigh, rangeTable, range-again, keywordTable, kind-is, answers-are, pairKind, pair-is, pair-kinds}
 

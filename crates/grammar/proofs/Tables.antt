@@ -13,7 +13,7 @@ use mir.Val.{Fits}
 use Rattle.word.specs.Profile.{Range, _to_, LP5523}
 use Rattle.grammar.specs.Form.{Kind, number, decision, answers, Pair, keyword}
 use Rattle.grammar.specs.Grammar.{OpLine, opLines, opNames, opForm, planPairs}
-use Rattle.grammar.specs.Tables.{keys, names, kinds, kindAt, forms, formOf, pairs, pairAt, opCount, nameCount, byteCount, numberKinds, kindCount, decisionKind, pairCount, formCount}
+use Rattle.grammar.specs.internal.Tables.{keys, names, kinds, kindAt, forms, formOf, pairs, pairAt, opCount, nameCount, byteCount, numberKinds, kindCount, decisionKind, pairCount, formCount}
 use Rattle.text.specs.Bytes.{ascii}
 
 -- NAMES

@@ -1,19 +1,19 @@
 -- When a line is refused with 20, 21 or 22, as plain statements (document 01, "Numbers of refusal" and the paragraph under its table). That
 -- the reader gives each number exactly there is stated below; the proofs are in proofs/Exactly.antt. The 22 of a ramp up by 0 is the
 -- encoder's, and comes in `op_lines`.
-use Prim.Native.Nat.{ℕ, _≤_}
+use Prim.Native.Nat.{ℕ}
 use mathlib.Core.Bool.{Bool, true, false, cond}
 use mathlib.Core.List.{List, [], _∷_}
-use mathlib.Core.Logic.{_↔_, _⊎_}
+use mathlib.Core.Logic.{_⊎_}
 use mathlib.Core.Path.{_≡_}
-use Rattle.text.specs.Bytes.{ascii, space, same, split, valueOf, isKeyword}
+use Rattle.text.specs.Bytes.{ascii, same, valueOf, isKeyword}
 use Rattle.text.specs.Number.{isNumber, numberOf}
 use Rattle.word.specs.Profile.{Profile}
 use Rattle.word.specs.Field.{inside}
 use Rattle.grammar.specs.declared.LineKind.{LineKind}
 use Rattle.grammar.specs.declared.LineKind.the-variants.{Op, Plan, Row, Spare}
-use Rattle.grammar.specs.Form.{Kind, number, keyword, decision, answers, Pair, values, refused, allPairs}
-use Rattle.grammar.specs.Grammar.{OpLine, opLines, planForm, wordForm, readLine}
+use Rattle.grammar.specs.Form.{Kind, number, keyword, decision, answers, Pair, allPairs}
+use Rattle.grammar.specs.Grammar.{OpLine, opLines, planForm, wordForm}
 
 -- Whether a keyword is one of some.
 abbrev pub among : List (List ℕ) → List ℕ → Bool
@@ -115,27 +115,3 @@ LineOutside P Op ps = OpOutside P ps
 LineOutside P (Plan i) ps = SomeOutside (planForm P i) ps
 LineOutside P Row ps = SomeOutside (wordForm "row") ps
 LineOutside P Spare ps = SomeOutside (wordForm "spare") ps
-
--- "In it 20, 21, 22": each number is given exactly where its condition holds and no lower number's does; and no other is given.
--- A line is read only where no condition holds.
-pub record Exactly (P : Profile) (k : LineKind) (line : List ℕ) : Type 0 where
-  pub isRead :
-      (ns : List ℕ) → readLine P k line ≡ values ns
-      → LineWellFormed P k (split space line) × (LineUnknown P k (split space line) → ⊥) × (LineOutside P k (split space line) → ⊥)
-  pub is20 : (readLine P k line ≡ refused 20) ↔ (LineWellFormed P k (split space line) → ⊥)
-  pub is21 : (readLine P k line ≡ refused 21) ↔ (LineWellFormed P k (split space line) × LineUnknown P k (split space line))
-  pub is22 :
-      (readLine P k line ≡ refused 22)
-      ↔ (LineWellFormed P k (split space line) × (LineUnknown P k (split space line) → ⊥) × LineOutside P k (split space line))
-  pub others : (n : ℕ) → readLine P k line ≡ refused n → (n ≡ 20) ⊎ ((n ≡ 21) ⊎ (n ≡ 22))
-
--- An engine's number has 16 bits, like every number of the code.
-abbrev pub Has16Bits : LineKind → Type 0
-Has16Bits Op = Unit {0}
-Has16Bits (Plan i) = i ≤ 65535
-Has16Bits Row = Unit {0}
-Has16Bits Spare = Unit {0}
-
--- So it is for every line of every kind.
-abbrev pub RefusesExactly : Type 0
-RefusesExactly = (P : Profile) (k : LineKind) (line : List ℕ) → Has16Bits k → Exactly P k line

@@ -1,5 +1,6 @@
 pub mod Form
 pub mod Grammar
+pub mod Values
 pub mod Conditions
 pub mod Theorems
-pub mod Tables
+pub mod internal

@@ -1,16 +1,18 @@
 -- What is promised of lines. The proofs are in proofs/Theorems.antt.
-use Prim.Native.Nat.{ℕ}
+use mathlib.Core.Logic.{_↔_, _⊎_}
+use Prim.Native.Nat.{ℕ, _≤_}
 use mathlib.Core.Bool.{Bool, true, false, cond, _&&_}
 use mathlib.Core.List.{List, [], _∷_}
 use mathlib.Core.Path.{_≡_}
 use lib.Dec.{eqb, leb, ltb}
 use lib.ListN.{length}
-use Rattle.text.specs.Bytes.{lineFeed, lacks}
+use Rattle.grammar.specs.Conditions.{LineWellFormed, LineUnknown, LineOutside}
+use Rattle.text.specs.Bytes.{lineFeed, lacks, space, split}
 use Rattle.word.specs.Profile.{Profile}
 use Rattle.word.specs.Field.{inside}
 use Rattle.grammar.specs.declared.LineKind.{LineKind}
 use Rattle.grammar.specs.declared.LineKind.the-variants.{Op, Plan, Row, Spare}
-use Rattle.grammar.specs.Form.{Kind, number, keyword, decision, answers, Pair, values}
+use Rattle.grammar.specs.Form.{Kind, number, keyword, decision, answers, Pair, values, refused}
 use Rattle.grammar.specs.Grammar.{opLines, opForm, planForm, wordForm, readLine, writeLine}
 
 -- Whether a number can be written as a value of a kind.
@@ -59,3 +61,27 @@ ReadFits = (P : Profile) (k : LineKind) (line ns : List ℕ) → readLine P k li
 -- No line that is written has a line feed in it.
 abbrev pub WrittenLacks : Type 0
 WrittenLacks = (P : Profile) (k : LineKind) (ns : List ℕ) → lacks lineFeed (writeLine P k ns) ≡ true
+
+-- "In it 20, 21, 22": each number is given exactly where its condition holds and no lower number's does; and no other is given.
+-- A line is read only where no condition holds.
+pub record Exactly (P : Profile) (k : LineKind) (line : List ℕ) : Type 0 where
+  pub isRead :
+      (ns : List ℕ) → readLine P k line ≡ values ns
+      → LineWellFormed P k (split space line) × (LineUnknown P k (split space line) → ⊥) × (LineOutside P k (split space line) → ⊥)
+  pub is20 : (readLine P k line ≡ refused 20) ↔ (LineWellFormed P k (split space line) → ⊥)
+  pub is21 : (readLine P k line ≡ refused 21) ↔ (LineWellFormed P k (split space line) × LineUnknown P k (split space line))
+  pub is22 :
+      (readLine P k line ≡ refused 22)
+      ↔ (LineWellFormed P k (split space line) × (LineUnknown P k (split space line) → ⊥) × LineOutside P k (split space line))
+  pub others : (n : ℕ) → readLine P k line ≡ refused n → (n ≡ 20) ⊎ ((n ≡ 21) ⊎ (n ≡ 22))
+
+-- An engine's number has 16 bits, like every number of the code.
+abbrev pub Has16Bits : LineKind → Type 0
+Has16Bits Op = Unit {0}
+Has16Bits (Plan i) = i ≤ 65535
+Has16Bits Row = Unit {0}
+Has16Bits Spare = Unit {0}
+
+-- So it is for every line of every kind.
+abbrev pub RefusesExactly : Type 0
+RefusesExactly = (P : Profile) (k : LineKind) (line : List ℕ) → Has16Bits k → Exactly P k line

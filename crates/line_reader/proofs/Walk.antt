@@ -20,7 +20,8 @@ use Rattle.grammar.specs.declared.Value.{Value}
 use Rattle.grammar.specs.declared.Value.the-variants.{Number, Malformed, Outside}
 use Rattle.grammar.specs.Form.{Kind, number, keyword, decision, Pair, Reading, values, refused, placeOf, readKeyword, held, readValue, readPair, before, allPairs, atEnd, decided, followed, readForm}
 use Rattle.grammar.specs.Grammar.{planForm, number16, named, readOp}
-use Rattle.grammar.specs.Tables.{opCount, nameCount, pairCount, names, pairs, pairAt, formOf, stopsAt, stoppedBy, partsFrom, valuesOf, lineReadOf, beforeRead}
+use Rattle.grammar.specs.Values.{valuesOf, lineReadOf}
+use Rattle.grammar.specs.internal.Tables.{opCount, nameCount, pairCount, names, pairs, pairAt, formOf, stopsAt, stoppedBy, partsFrom, beforeRead}
 use Rattle.grammar.proofs.Value as variants
 use Rattle.grammar.proofs.Places.{keyword-read}
 use Rattle.grammar.proofs.Ranges.{other-value}

@@ -6,7 +6,7 @@ ghost use mathlib.Core.Path.{_≡_};
 ghost use Prim.Native.Nat.{_+_, _≤_};
 ghost use lib.ListN.{take, drop};
 ghost use Rattle.grammar.specs.Form.{placeOf, readKeyword};
-ghost use Rattle.grammar.specs.Tables.{nameCount, names};
+ghost use Rattle.grammar.specs.internal.Tables.{nameCount, names};
 
 // The place of v among `count` names from `first` on. The tables are made once, before the loop.
 fn place_of(v: &[u8], first: usize, count: usize) -> Value

@@ -15,7 +15,7 @@ ghost use Prim.Native.Nat.{_<_};
 ghost use Rattle.text.specs.Number.{readNumber};
 ghost use Rattle.word.specs.Field.{inside, upto};
 ghost use Rattle.grammar.specs.Form.{held, readValue};
-ghost use Rattle.grammar.specs.Tables.{numberKinds, kindCount, kindAt, rangesAt};
+ghost use Rattle.grammar.specs.internal.Tables.{numberKinds, kindCount, kindAt, rangesAt};
 
 fn in_ranges(n: u16, kind: usize) -> bool
     requires { ⌜ kind < numberKinds ⌝ }

@@ -6,7 +6,7 @@ ghost use mathlib.Core.Path.{_≡_};
 ghost use Prim.Native.Nat.{_<_};
 ghost use lib.ListN.{getD};
 ghost use Rattle.text.specs.Bytes.{valueOf};
-ghost use Rattle.grammar.specs.Tables.{nameCount, names};
+ghost use Rattle.grammar.specs.internal.Tables.{nameCount, names};
 
 // The value of a pair whose key is the name k.
 pub(super) fn value_after(pair: &[u8], k: usize) -> &[u8]

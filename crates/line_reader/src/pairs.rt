@@ -15,7 +15,8 @@ ghost use mathlib.Core.Path.{_≡_};
 ghost use Prim.Native.Nat.{_-_, _≤_, _<_};
 ghost use lib.ListN.{take, drop};
 ghost use Rattle.grammar.specs.Form.{readPair, readForm};
-ghost use Rattle.grammar.specs.Tables.{pairCount, formCount, pairs, pairAt, formOf, partsFrom, lineReadOf, stopsAt};
+ghost use Rattle.grammar.specs.Values.{lineReadOf};
+ghost use Rattle.grammar.specs.internal.Tables.{pairCount, formCount, pairs, pairAt, formOf, partsFrom, stopsAt};
 
 fn read_pair(part: &[u8], pair: usize) -> Value
     requires { ⌜ pair < pairCount ⌝ }

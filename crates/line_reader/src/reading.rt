@@ -18,7 +18,7 @@ ghost use Rattle.text.specs.Number.{readNumber};
 ghost use Rattle.word.specs.Profile.{LP5523, _to_};
 ghost use Rattle.grammar.specs.Form.{held, readForm};
 ghost use Rattle.grammar.specs.Grammar.{planForm, number16, readOp, readLine};
-ghost use Rattle.grammar.specs.Tables.{lineReadOf};
+ghost use Rattle.grammar.specs.Values.{lineReadOf};
 
 fn read_op(line: &[u8]) -> LineRead
     ensures { λ r. ⌜ r ≡ lineReadOf (readOp LP5523 (split space (now (line .entry)))) ⌝ }

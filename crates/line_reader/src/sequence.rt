@@ -4,7 +4,7 @@ use grammar::Value;
 use grammar::Values;
 ghost use mathlib.Core.Path.{_≡_};
 ghost use Prim.Native.Nat.{min};
-ghost use Rattle.grammar.specs.Tables.{beforeRead};
+ghost use Rattle.grammar.specs.internal.Tables.{beforeRead};
 
 fn lower(a: u16, b: u16) -> u16
     ensures { λ r. ⌜ r ≡ min a b ⌝ }

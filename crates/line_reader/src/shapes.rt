@@ -6,7 +6,8 @@ use grammar::Values;
 use text::SPACE;
 ghost use mathlib.Core.Path.{_≡_};
 ghost use Rattle.grammar.specs.Form.{allPairs, unknown, atEnd};
-ghost use Rattle.grammar.specs.Tables.{partsFrom, lineReadOf, stoppedBy};
+ghost use Rattle.grammar.specs.Values.{lineReadOf};
+ghost use Rattle.grammar.specs.internal.Tables.{partsFrom, stoppedBy};
 
 // Whether every part from `from` on is a pair.
 fn all_pairs(line: &[u8], from: usize) -> bool

@@ -19,7 +19,7 @@ use Rattle.word.specs.Profile.{LP5523}
 use Rattle.grammar.specs.declared.Value.the-variants.{Number}
 use Rattle.grammar.specs.Form.{Kind, number, keyword, decision, answers, Pair, writeValue, writePair, continued, writeForm}
 use Rattle.grammar.specs.Grammar.{OpLine, opLines, opNames, opForm, planPairs, directions, variables, number16, wordForm, writeOp}
-use Rattle.grammar.specs.Tables.{opCount, numberKinds, kindCount, decisionKind, pairCount, keys, names, kindAt, pairs, pairAt, stopsAt}
+use Rattle.grammar.specs.internal.Tables.{opCount, numberKinds, kindCount, decisionKind, pairCount, keys, names, kindAt, pairs, pairAt, stopsAt}
 use Rattle.grammar.proofs.Ranges.{kind-number}
 use Rattle.grammar.proofs.Tables.{keywordTable, formTable, keywordCount, keywordFirst, kind-is, answers-are, pairs-length, op-form, plan-form, form-is}
 

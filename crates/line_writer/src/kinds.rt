@@ -6,7 +6,7 @@ use grammar::NUMBERS;
 ghost use Prim.Native.Nat.{_<_};
 ghost use Rattle.text.specs.Put.{Put};
 ghost use Rattle.grammar.specs.Form.{writeValue};
-ghost use Rattle.grammar.specs.Tables.{kindCount, kindAt};
+ghost use Rattle.grammar.specs.internal.Tables.{kindCount, kindAt};
 
 pub(super) fn put_value(out: &mut [u8], at: usize, kind: usize, n: u16) -> usize
     requires { ⌜ kind < kindCount ⌝ }

@@ -5,7 +5,7 @@ ghost use mathlib.Core.List.{[]};
 ghost use Prim.Native.Nat.{_<_};
 ghost use lib.ListN.{getD};
 ghost use Rattle.text.specs.Put.{Put};
-ghost use Rattle.grammar.specs.Tables.{nameCount, names};
+ghost use Rattle.grammar.specs.internal.Tables.{nameCount, names};
 
 pub(super) fn put_name(out: &mut [u8], at: usize, k: usize) -> usize
     requires { ⌜ k < nameCount ⌝ }

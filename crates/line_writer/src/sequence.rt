@@ -2,7 +2,7 @@
 use grammar::Values;
 ghost use mathlib.Core.Path.{_≡_};
 ghost use lib.ListN.{getD};
-ghost use Rattle.grammar.specs.Tables.{listOf};
+ghost use Rattle.grammar.specs.Values.{listOf};
 
 // The value at a place, counted from 0.
 pub(super) fn value_at(v: Values, i: usize) -> u16

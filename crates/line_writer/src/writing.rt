@@ -22,7 +22,8 @@ ghost use Rattle.word.specs.Profile.{LP5523};
 ghost use Rattle.grammar.specs.declared.Value.the-variants.{Number};
 ghost use Rattle.grammar.specs.Form.{writePair, writeForm};
 ghost use Rattle.grammar.specs.Grammar.{planPairs, number16, writeOp, writeLine};
-ghost use Rattle.grammar.specs.Tables.{pairCount, pairs, pairAt, stopsAt, listOf};
+ghost use Rattle.grammar.specs.Values.{listOf};
+ghost use Rattle.grammar.specs.internal.Tables.{pairCount, pairs, pairAt, stopsAt};
 
 fn put_pair(out: &mut [u8], at: usize, pair: usize, n: u16) -> usize
     requires { ⌜ pair < pairCount ⌝ }

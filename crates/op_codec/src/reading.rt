@@ -11,7 +11,7 @@ ghost use Prim.Native.Nat.{_<_};
 ghost use Rattle.word.specs.Profile.{LP5523};
 ghost use Rattle.word.specs.Answer.{refusal};
 ghost use Rattle.word.specs.Table.{encodeOf};
-ghost use Rattle.grammar.specs.Tables.{listOf};
+ghost use Rattle.grammar.specs.Values.{listOf};
 ghost use Rattle.op_lines.specs.Words.{wordOf};
 ghost use Rattle.op_lines.specs.Lines.{answerOf, assembleLineOf};
 

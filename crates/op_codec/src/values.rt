@@ -14,7 +14,7 @@ ghost use denote.Enum.Declared.{tagOf};
 ghost use Prim.Native.Nat.{_≤_};
 ghost use Rattle.word.specs.Profile.{LP5523};
 ghost use Rattle.word.proofs.Word.{the-type};
-ghost use Rattle.grammar.specs.Tables.{valuesOf};
+ghost use Rattle.grammar.specs.Values.{valuesOf};
 ghost use Rattle.op_lines.specs.Values.{directionPlace, jumpRow, arithRow, arithVarRow, muxAtRow, muxMoveRow, wordValues};
 
 fn direction_place(dir: Direction) -> u16

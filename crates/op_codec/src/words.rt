@@ -14,7 +14,7 @@ ghost use Rattle.word.specs.Steps.{stepAt, addressAt};
 ghost use Rattle.word.specs.declared.Word.the-variants.{Ramp, Wait, RampVar, BranchVar, Jump, Arith, ArithVar, MuxAt, MuxMove, Branch, End, Trigger};
 ghost use Rattle.word.specs.Profile.{LP5523};
 ghost use Rattle.grammar.specs.Grammar.{directionOf};
-ghost use Rattle.grammar.specs.Tables.{listOf};
+ghost use Rattle.grammar.specs.Values.{listOf};
 ghost use Rattle.op_lines.specs.Words.{wordOf};
 
 fn direction_of(sign: u16) -> Direction

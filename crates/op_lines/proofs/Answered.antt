@@ -22,7 +22,7 @@ use Rattle.grammar.specs.declared.LineRead.the-variants.{Read, Refused}
 use Rattle.grammar.specs.declared.Values.{Values}
 use Rattle.grammar.specs.Form.{Reading, values, refused}
 use Rattle.grammar.specs.Grammar.{opForm, readLine}
-use Rattle.grammar.specs.Tables.{valuesOf, listOf, lineReadOf}
+use Rattle.grammar.specs.Values.{valuesOf, listOf, lineReadOf}
 use Rattle.grammar.specs.Theorems.{fitsForm, fitsOp, fitsLine}
 use Rattle.grammar.proofs.Theorems.{read-fits}
 use Rattle.op_lines.specs.Words.{wordOf}

@@ -12,7 +12,7 @@ use Rattle.word.specs.declared.Word.the-variants.{Undefined}
 use Rattle.grammar.specs.Form.{Kind, number, decision, Pair, keyword}
 use Rattle.grammar.specs.Grammar.{directionOf, opForm}
 use Rattle.grammar.specs.declared.Values.{Values}
-use Rattle.grammar.specs.Tables.{listOf}
+use Rattle.grammar.specs.Values.{listOf}
 use Rattle.grammar.specs.Theorems.{isEmpty, fitsKind, fitsAfter, fitsForm, fitsOp}
 use Rattle.grammar.proofs.Tables.{tabulate, tabled}
 use Rattle.op_lines.specs.Words.{wordsWith, wordOf}

@@ -11,7 +11,7 @@ use Rattle.word.specs.Table.{encodeOf}
 use Rattle.grammar.specs.declared.LineKind.the-variants.{Op}
 use Rattle.grammar.specs.Form.{Reading, values, refused}
 use Rattle.grammar.specs.Grammar.{readLine}
-use Rattle.grammar.specs.Conditions as grammar
+use Rattle.grammar.specs.Theorems as grammar
 use Rattle.grammar.specs.Conditions.{LineWellFormed, LineUnknown, LineOutside}
 use Rattle.op_lines.specs.Words.{wordOf}
 use Rattle.op_lines.specs.Lines.{coded, assembleLineOf}

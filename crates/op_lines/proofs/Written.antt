@@ -19,7 +19,7 @@ use Rattle.word.specs.declared.Word.the-variants.{Rst, Ramp, Wait, Set, RampVar
 use Rattle.word.proofs.Fields.{from-least}
 use Rattle.grammar.specs.Form.{continued, writeForm}
 use Rattle.grammar.specs.Grammar.{opForm, writeOp}
-use Rattle.grammar.specs.Tables.{valuesOf, listOf}
+use Rattle.grammar.specs.Values.{valuesOf, listOf}
 use Rattle.grammar.specs.Theorems.{fitsForm, fitsOp}
 use Rattle.op_lines.specs.Words.{wordOf}
 use Rattle.op_lines.specs.Values.{opValues, wordValues}

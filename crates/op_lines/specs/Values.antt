@@ -1,5 +1,5 @@
--- The values of a word's line. Nothing here has to be believed: they stand for the word (`WordAgain`), and the line with them is the one line
--- that is read as the word's code (`CodeAgain`, `LineAgain`; specs/Theorems.antt).
+-- The values of a word's line. They stand for the word (`WordAgain`), and the line with them is the one line that is read as the word's code
+-- (`CodeAgain`, `LineAgain`; specs/Theorems.antt).
 use Prim.Native.Nat.{ℕ}
 use mathlib.Core.List.{List, [], _∷_}
 use lib.ListN.{length}
@@ -20,7 +20,7 @@ use Rattle.word.specs.declared.Word.{Word}
 use Rattle.word.specs.declared.Word.the-variants.{Rst, Ramp, Wait, Set, RampVar, SetVar, BranchVar, Jump, Arith, ArithVar, MuxAt, MuxClr, MuxSel, MuxMove, Branch, End, Int, Trigger, Undefined}
 use Rattle.grammar.specs.declared.Values.{Values}
 use Rattle.grammar.specs.Grammar.{opLines}
-use Rattle.grammar.specs.Tables.{valuesOf}
+use Rattle.grammar.specs.Values.{valuesOf}
 
 -- The place of a direction among the words for it.
 abbrev pub directionPlace : Direction → ℕ

@@ -9,7 +9,8 @@ use borrow.Author.Tests.{eq-eqb, ne-eqb, eqb-true, eqb-false, not-true}
 use lib.Dec.{eqb}
 use lib.ListN.{length, take, drop, length-drop, drop-of-length-le}
 use lib.Seq.{drop-cons, drop-drop, take-all, length-take-le, take-append-seam, drop-append-seam}
-use Rattle.text.specs.Bytes.{lacks, indexOf, grow, split, after, joined, join, partAt}
+use Rattle.text.specs.internal.Splits.{after}
+use Rattle.text.specs.Bytes.{lacks, indexOf, grow, split, joined, join, partAt}
 use Rattle.text.specs.Theorems.{allLack}
 
 pub index-le : (d : ℕ) (s : List ℕ) → indexOf d s ≤ length s

@@ -50,11 +50,6 @@ unfoldable pub split : ℕ → List ℕ → List (List ℕ)
 split d [] = [] ∷ []
 split d (x ∷ s) = cond (eqb x d) ([] ∷ split d s) (grow x (split d s))
 
--- The parts after the first, where s is what follows the first: nothing, or a separator and the others.
-unfoldable pub after : ℕ → List ℕ → List (List ℕ)
-after d [] = []
-after d (x ∷ s) = split d s
-
 -- The parts with a d before each.
 unfoldable pub joined : ℕ → List (List ℕ) → List ℕ
 joined d [] = []

@@ -2,3 +2,4 @@ pub mod Bytes
 pub mod Number
 pub mod Put
 pub mod Theorems
+pub mod internal

@@ -6,18 +6,6 @@ use crate::print;
 use op_lines::WordLine;
 use op_lines::WordWritten;
 use text_bytes::same;
-ghost use mathlib.Core.Path.{_≡_};
-ghost use Rattle.op_lines.specs.Lines.{writtenNumber};
-
-fn written_number(written: WordWritten) -> u16
-    ensures { λ r. ⌜ r ≡ writtenNumber written ⌝ }
-{
-    match written {
-        WordWritten::Length(_) => 0,
-        WordWritten::UndefinedWord => 13,
-        WordWritten::TooShort => 24,
-    }
-}
 
 fn length_of(written: WordWritten) -> usize {
     let WordWritten::Length(n) = written else {
@@ -64,7 +52,12 @@ pub fn write(code: u16, room: usize) {
     let end = length_of(written);
     print::say(
         b": number=$ code=#",
-        [written_number(written) as u32, code as u32, 0, 0],
+        [
+            refusals::written_line_number_of(written) as u32,
+            code as u32,
+            0,
+            0,
+        ],
     );
     print::either(bytes_kept(&out, end), b" rest=kept ", b" rest=changed ");
     print::text(until(&out, end));

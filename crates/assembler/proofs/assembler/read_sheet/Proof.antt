@@ -11,7 +11,7 @@ use Rattle.assembler.specs.declared.PlanLine.{PlanLine}
 use Rattle.assembler.specs.declared.PlanLine.the-variants.{Plan, Refused}
 use Rattle.asm.specs.Answers.{readingOf}
 use Rattle.asm.specs.Reading.{Sheet, readPlans, readSheet}
-use Rattle.assembler.specs.Walks.{linesFrom, thenPlans, Within}
+use Rattle.assembler.specs.internal.Walks.{linesFrom, thenPlans, Within}
 use Rattle.assembler.proofs.assembler.read_sheet.Statement.{statement}
 use Rattle.assembler.proofs.assembler.read_sheet.Tie as tie
 

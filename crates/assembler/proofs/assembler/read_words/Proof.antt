@@ -16,7 +16,7 @@ use Rattle.plan.specs.Check.{checkRangesOf}
 use Rattle.grammar.specs.declared.LineKind.{LineKind}
 use Rattle.assembler.specs.declared.WordRead.{WordRead}
 use Rattle.asm.specs.Reading.{Sheet, readWordLine, ranged, withWord, readWords}
-use Rattle.assembler.specs.Walks.{linesFrom, thenWord}
+use Rattle.assembler.specs.internal.Walks.{linesFrom, thenWord}
 use Rattle.assembler.proofs.LineWalk.{wordsFrom, word-goes, word-rest, words-end, words-over}
 use Rattle.assembler.proofs.assembler.read_words.Statement.{statement}
 use Rattle.assembler.proofs.assembler.read_words.Tie as tie

@@ -1,6 +1,6 @@
 -- `assembler::plans::engine_plan` meets its contract.
 use borrow.Author.Tests.{eq-eqb, ne-eqb}
-use Rattle.grammar.specs.Tables.{listOf}
+use Rattle.grammar.specs.Values.{listOf}
 use Rattle.assembler.proofs.plans.engine_plan.Statement.{statement}
 use Rattle.assembler.proofs.plans.engine_plan.Tie as tie
 

@@ -10,7 +10,7 @@ use Rattle.plan.specs.declared.EnginePlan.{EnginePlan}
 use Rattle.grammar.specs.declared.LineKind.the-variants as kind
 use Rattle.grammar.specs.Grammar.{readLine}
 use Rattle.asm.specs.Reading.{Sheet, readPlans}
-use Rattle.assembler.specs.Walks.{linesFrom}
+use Rattle.assembler.specs.internal.Walks.{linesFrom}
 use Rattle.assembler.proofs.LineWalk.{plan-goes, plan-rest}
 use Rattle.assembler.proofs.LineAnswers.{refused-with, plan-read, plan-refused}
 use Rattle.assembler.proofs.plans.read_plan.Statement.{statement}

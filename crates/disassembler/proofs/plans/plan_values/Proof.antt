@@ -2,7 +2,7 @@
 use borrow.Author.Needs.{needs}
 use Rattle.laws.proofs.Matches.{via}
 use Rattle.plan.specs.declared.EnginePlan.{EnginePlan}
-use Rattle.grammar.specs.Tables.{valuesOf}
+use Rattle.grammar.specs.Values.{valuesOf}
 use Rattle.asm.specs.PlanLines.{planValues}
 use Rattle.disassembler.proofs.plans.plan_values.Statement.{statement}
 use Rattle.disassembler.proofs.plans.plan_values.Tie as tie

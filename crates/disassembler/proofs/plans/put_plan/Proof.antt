@@ -7,7 +7,7 @@ use Rattle.word.specs.Profile.{LP5523}
 use Rattle.grammar.specs.declared.LineKind.the-variants.{Plan}
 use Rattle.grammar.specs.declared.Values.{Values}
 use Rattle.grammar.specs.Grammar.{writeLine}
-use Rattle.grammar.specs.Tables.{listOf}
+use Rattle.grammar.specs.Values.{listOf}
 use Rattle.disassembler.proofs.SheetText.{plan-line}
 use Rattle.disassembler.proofs.plans.put_plan.Statement.{statement}
 use Rattle.disassembler.proofs.plans.put_plan.Tie as tie

@@ -1,6 +1,6 @@
 -- `disassembler::plans::seven` meets its contract.
 use mathlib.Core.Path.{refl}
-use Rattle.grammar.specs.Tables.{valuesOf}
+use Rattle.grammar.specs.Values.{valuesOf}
 use Rattle.disassembler.proofs.plans.seven.Statement.{statement}
 use Rattle.disassembler.proofs.plans.seven.Tie as tie
 

@@ -3,7 +3,7 @@ use mathlib.Core.Path.{ap}
 use borrow.Author.Needs.{needs}
 use Rattle.plan.specs.Verdict.{isAccept}
 use Rattle.plan.proofs.Laws.{not-accept, stops, goes-on}
-use Rattle.disassembler.specs.Walks.{planDefined}
+use Rattle.disassembler.specs.internal.Walks.{planDefined}
 use Rattle.disassembler.proofs.undefined.check_defined.Statement.{statement}
 use Rattle.disassembler.proofs.undefined.check_defined.Tie as tie
 

@@ -4,7 +4,7 @@ use mathlib.Core.Path.{_≡_, refl, sym, ap, _∙_}
 use native.Mathlib.Omega.{arith}
 use Rattle.word.specs.Profile.{LP5523}
 use Rattle.word.specs.Classes.{isUndefined}
-use Rattle.disassembler.specs.Walks.{definedFrom}
+use Rattle.disassembler.specs.internal.Walks.{definedFrom}
 use Rattle.disassembler.proofs.Defined.{undefined-here, defined-here, defined-to}
 use Rattle.disassembler.proofs.undefined.first_undefined.Statement.{statement}
 use Rattle.disassembler.proofs.undefined.first_undefined.Tie as tie

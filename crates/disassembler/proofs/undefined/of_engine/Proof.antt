@@ -5,7 +5,7 @@ use Rattle.laws.proofs.Matches.{via}
 use Rattle.word.specs.Profile.{LP5523}
 use Rattle.plan.specs.declared.EnginePlan.{EnginePlan}
 use Rattle.plan.proofs.Laws.{code-within, code-beside-table-within}
-use Rattle.disassembler.specs.Walks.{engineDefined}
+use Rattle.disassembler.specs.internal.Walks.{engineDefined}
 use Rattle.disassembler.proofs.undefined.of_engine.Statement.{statement}
 use Rattle.disassembler.proofs.undefined.of_engine.Tie as tie
 

@@ -5,7 +5,7 @@ use borrow.Author.Needs.{needs}
 use Rattle.text.proofs.Puts.{put-append, put-is}
 use Rattle.word.specs.Profile.{LP5523}
 use Rattle.grammar.specs.declared.LineKind.{LineKind}
-use Rattle.grammar.specs.Tables.{listOf}
+use Rattle.grammar.specs.Values.{listOf}
 use Rattle.asm.specs.Writing.{wordLine}
 use Rattle.disassembler.proofs.SheetText.{plain-line}
 use Rattle.disassembler.proofs.words.put_word.Statement.{statement}

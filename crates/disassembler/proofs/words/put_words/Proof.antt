@@ -11,7 +11,7 @@ use Rattle.grammar.specs.declared.LineKind.{LineKind}
 use Rattle.line_writer.proofs.Written.{so-far-is}
 use Rattle.asm.specs.Places.{lineKindAt}
 use Rattle.asm.specs.Writing.{wordLine}
-use Rattle.disassembler.specs.Walks.{IsWordLine}
+use Rattle.disassembler.specs.internal.Walks.{IsWordLine}
 use Rattle.disassembler.proofs.SheetText.{word-at, wordsFrom, words-step, words-end}
 use Rattle.disassembler.proofs.words.put_words.Statement.{statement}
 use Rattle.disassembler.proofs.words.put_words.Tie as tie

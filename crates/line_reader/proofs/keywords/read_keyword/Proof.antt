@@ -5,7 +5,7 @@ use borrow.Author.Needs.{needs}
 use lib.ListN.{take, drop}
 use Rattle.grammar.specs.declared.Value.the-variants.{Malformed}
 use Rattle.grammar.specs.Form.{placeOf, readKeyword}
-use Rattle.grammar.specs.Tables.{names}
+use Rattle.grammar.specs.internal.Tables.{names}
 use Rattle.line_reader.proofs.keywords.read_keyword.Statement.{statement}
 use Rattle.line_reader.proofs.keywords.read_keyword.Tie as tie
 

@@ -2,7 +2,7 @@
 use mathlib.Core.Bool.{true, false}
 use mathlib.Core.Path.{sym, _∙_}
 use borrow.Author.Needs.{needs}
-use Rattle.grammar.specs.Tables.{rangesAt}
+use Rattle.grammar.specs.internal.Tables.{rangesAt}
 use Rattle.grammar.proofs.Ranges.{narrow-number, narrow-other}
 use Rattle.line_reader.proofs.kinds.number_of.Statement.{statement}
 use Rattle.line_reader.proofs.kinds.number_of.Tie as tie

@@ -2,7 +2,7 @@
 use Prim.Native.Nat.{ℕ, _-_, _≤_, _<_}
 use mathlib.Core.Path.{sym, _∙_}
 use native.Mathlib.Omega.{arith}
-use Rattle.grammar.specs.Tables.{numberKinds, kindCount}
+use Rattle.grammar.specs.internal.Tables.{numberKinds, kindCount}
 use Rattle.grammar.proofs.Tables.{keywordFirst, keywordCount, keywords-within, first-fits, count-fits}
 use Rattle.grammar.proofs.Ranges.{number-value, keyword-value}
 use Rattle.line_reader.proofs.kinds.read_value.Statement.{statement}

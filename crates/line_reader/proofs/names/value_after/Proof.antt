@@ -5,7 +5,7 @@ use mathlib.Core.Path.{sym, ap, _∙_}
 use borrow.Author.Needs.{fits-under}
 use mir.Syntax.{w64}
 use Rattle.text.specs.Bytes.{valueOf}
-use Rattle.grammar.specs.Tables.{nameCount}
+use Rattle.grammar.specs.internal.Tables.{nameCount}
 use Rattle.grammar.proofs.Tables.{in-table, next-in-table, scaled, nameBytes, nameAt, name-starts, name-ends, name-fits, name-is}
 use Rattle.line_reader.proofs.names.value_after.Statement.{statement}
 use Rattle.line_reader.proofs.names.value_after.Tie as tie

@@ -7,7 +7,8 @@ use borrow.Fn.PlainCycle.{Measures, is, falls, and}
 use Rattle.text_bytes.proofs.part_at.Reads as part-at-reads
 use Rattle.grammar.specs.declared.LineRead.the-variants.{Refused}
 use Rattle.grammar.specs.Form.{Reading, refused}
-use Rattle.grammar.specs.Tables.{lineReadOf, beforeRead}
+use Rattle.grammar.specs.Values.{lineReadOf}
+use Rattle.grammar.specs.internal.Tables.{beforeRead}
 use Rattle.line_reader.proofs.Walk.{part-ends, read-before, form-done, form-short, form-stops, form-goes}
 use Rattle.line_reader.proofs.pairs.read_pairs.Reads as read-pairs
 use Rattle.line_reader.proofs.pairs.read_pairs.Kinds as read-pairs-kinds

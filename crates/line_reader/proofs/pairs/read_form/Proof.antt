@@ -5,7 +5,8 @@ use mathlib.Core.Path.{sym, ap, _∙_}
 use borrow.Author.Needs.{fits-under}
 use mir.Syntax.{w64}
 use Rattle.grammar.specs.Form.{Pair, readForm}
-use Rattle.grammar.specs.Tables.{formCount, partsFrom, lineReadOf}
+use Rattle.grammar.specs.Values.{lineReadOf}
+use Rattle.grammar.specs.internal.Tables.{formCount, partsFrom}
 use Rattle.grammar.proofs.Tables.{in-table, next-in-table, formAt, form-is, form-ends, form-fits}
 use Rattle.line_reader.proofs.pairs.read_form.Statement.{statement}
 use Rattle.line_reader.proofs.pairs.read_form.Tie as tie

@@ -2,7 +2,7 @@
 use mathlib.Core.Path.{sym, ap, _∙_}
 use lib.ListN.{getD}
 use Rattle.grammar.specs.Form.{Pair, readPair, readValue}
-use Rattle.grammar.specs.Tables.{kindAt}
+use Rattle.grammar.specs.internal.Tables.{kindAt}
 use Rattle.grammar.proofs.Tables.{pairKey, pairKind, pair-is, pair-keys, pair-kinds, key-fits, kind-fits}
 use Rattle.line_reader.proofs.pairs.read_pair.Statement.{statement}
 use Rattle.line_reader.proofs.pairs.read_pair.Tie as tie

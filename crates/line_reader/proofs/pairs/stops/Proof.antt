@@ -2,7 +2,7 @@
 use mathlib.Core.Path.{sym, ap, _∙_}
 use borrow.Author.Needs.{needs}
 use Rattle.grammar.specs.Form.{decision}
-use Rattle.grammar.specs.Tables.{stopsAt}
+use Rattle.grammar.specs.internal.Tables.{stopsAt}
 use Rattle.grammar.proofs.Tables.{pairKind}
 use Rattle.grammar.proofs.Ranges.{stops-other, stops-decision, stops-not}
 use Rattle.line_reader.proofs.pairs.stops.Statement.{statement}

@@ -7,7 +7,7 @@ use Rattle.word.specs.Profile.{LP5523}
 use Rattle.grammar.specs.declared.LineKind.{LineKind}
 use Rattle.grammar.specs.declared.LineRead.{LineRead}
 use Rattle.grammar.specs.Grammar.{wordForm, readParts, readLine}
-use Rattle.grammar.specs.Tables.{lineReadOf}
+use Rattle.grammar.specs.Values.{lineReadOf}
 use Rattle.line_reader.proofs.reading.read_line.Statement.{statement}
 use Rattle.line_reader.proofs.reading.read_line.Tie as tie
 

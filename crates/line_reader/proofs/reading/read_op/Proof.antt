@@ -10,7 +10,8 @@ use Rattle.grammar.specs.declared.Value.{Value}
 use Rattle.grammar.specs.declared.Value.the-variants.{Number}
 use Rattle.grammar.specs.Form.{readKeyword}
 use Rattle.grammar.specs.Grammar.{readOp, named}
-use Rattle.grammar.specs.Tables.{opCount, partsFrom, lineReadOf, beforeRead}
+use Rattle.grammar.specs.Values.{lineReadOf}
+use Rattle.grammar.specs.internal.Tables.{opCount, partsFrom, beforeRead}
 use Rattle.line_reader.proofs.Walk.{keywordsFrom, read-before, op-line, op-small, op-stops, op-goes}
 use Rattle.line_reader.proofs.reading.read_op.Statement.{statement}
 use Rattle.line_reader.proofs.reading.read_op.Tie as tie

@@ -1,7 +1,8 @@
 -- `line_reader::reading::read_plan` meets its contract.
 use mathlib.Core.Path.{sym, ap, _∙_}
 use borrow.Author.Needs.{needs}
-use Rattle.grammar.specs.Tables.{lineReadOf, beforeRead}
+use Rattle.grammar.specs.Values.{lineReadOf}
+use Rattle.grammar.specs.internal.Tables.{beforeRead}
 use Rattle.line_reader.proofs.Walk.{read-before, plan-line}
 use Rattle.line_reader.proofs.reading.read_plan.Statement.{statement}
 use Rattle.line_reader.proofs.reading.read_plan.Tie as tie

@@ -4,7 +4,7 @@ use borrow.Author.Needs.{needs}
 use Rattle.grammar.specs.declared.Value.{Value}
 use Rattle.grammar.specs.declared.LineRead.{LineRead}
 use Rattle.grammar.specs.declared.LineRead.the-variants.{Refused}
-use Rattle.grammar.specs.Tables.{beforeRead}
+use Rattle.grammar.specs.internal.Tables.{beforeRead}
 use Rattle.line_reader.proofs.sequence.before.Statement.{statement}
 use Rattle.line_reader.proofs.sequence.before.Tie as tie
 

@@ -1,6 +1,6 @@
 -- `line_reader::shapes::at_end` meets its contract.
 use mathlib.Core.Path.{sym, ap}
-use Rattle.grammar.specs.Tables.{lineReadOf, valuesOf}
+use Rattle.grammar.specs.Values.{valuesOf, lineReadOf}
 use Rattle.line_reader.proofs.Walk.{more-left, none-left}
 use Rattle.line_reader.proofs.shapes.at_end.Statement.{statement}
 use Rattle.line_reader.proofs.shapes.at_end.Tie as tie

@@ -5,7 +5,8 @@ use mathlib.Core.Path.{_≡_, refl, sym, ap, _∙_}
 use borrow.Author.Needs.{needs}
 use Rattle.grammar.specs.declared.Value.{Value}
 use Rattle.grammar.specs.declared.LineRead.{LineRead}
-use Rattle.grammar.specs.Tables.{partsFrom, lineReadOf, beforeRead, stoppedBy}
+use Rattle.grammar.specs.Values.{lineReadOf}
+use Rattle.grammar.specs.internal.Tables.{partsFrom, beforeRead, stoppedBy}
 use Rattle.line_reader.proofs.Walk.{read-before}
 use Rattle.line_reader.proofs.shapes.stopped.Statement.{statement}
 use Rattle.line_reader.proofs.shapes.stopped.Tie as tie

@@ -4,7 +4,7 @@ use mathlib.Core.Path.{sym, ap, _∙_}
 use borrow.Author.Needs.{needs}
 use Rattle.grammar.specs.declared.LineRead.the-variants.{Refused}
 use Rattle.grammar.specs.Form.{unknown}
-use Rattle.grammar.specs.Tables.{lineReadOf}
+use Rattle.grammar.specs.Values.{lineReadOf}
 use Rattle.line_reader.proofs.shapes.unknown.Statement.{statement}
 use Rattle.line_reader.proofs.shapes.unknown.Tie as tie
 

@@ -6,7 +6,7 @@ use borrow.Author.Needs.{needs, fits-under}
 use lib.ListN.{getD}
 use mir.Syntax.{w64}
 use Rattle.text.proofs.Puts.{put-nil, put-is}
-use Rattle.grammar.specs.Tables.{nameCount, numberKinds, kindCount}
+use Rattle.grammar.specs.internal.Tables.{nameCount, numberKinds, kindCount}
 use Rattle.grammar.proofs.Tables.{keywordFirst, keywordCount, keywords-within, first-fits, count-fits}
 use Rattle.line_writer.proofs.Written.{number-text, keyword-name, keyword-none}
 use Rattle.line_writer.proofs.kinds.put_value.Statement.{statement}

@@ -4,7 +4,7 @@ use mathlib.Core.Path.{sym}
 use borrow.Author.Needs.{needs, fits-under}
 use mir.Syntax.{w64}
 use Rattle.text.proofs.Puts.{put-is}
-use Rattle.grammar.specs.Tables.{nameCount}
+use Rattle.grammar.specs.internal.Tables.{nameCount}
 use Rattle.grammar.proofs.Tables.{in-table, next-in-table, scaled, nameBytes, nameAt, name-starts, name-ends, name-fits, name-is}
 use Rattle.line_writer.proofs.names.put_name.Statement.{statement}
 use Rattle.line_writer.proofs.names.put_name.Tie as tie

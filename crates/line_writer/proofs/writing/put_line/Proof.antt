@@ -9,7 +9,7 @@ use Rattle.word.specs.Profile.{LP5523}
 use Rattle.grammar.specs.declared.LineKind.{LineKind}
 use Rattle.grammar.specs.Form.{writeValue, writePair, continued, writeForm}
 use Rattle.grammar.specs.Grammar.{planForm, writeParts, writeLine}
-use Rattle.grammar.specs.Tables.{listOf}
+use Rattle.grammar.specs.Values.{listOf}
 use Rattle.line_writer.proofs.Written.{single-line}
 use Rattle.line_writer.proofs.writing.put_line.Statement.{statement}
 use Rattle.line_writer.proofs.writing.put_line.Tie as tie

@@ -7,7 +7,8 @@ use lib.ListN.{length}
 use mir.Syntax.{w64}
 use Rattle.text.specs.Put.{lastPlace}
 use Rattle.text.proofs.Puts.{put-append, put-is}
-use Rattle.grammar.specs.Tables.{opCount, formCount, listOf}
+use Rattle.grammar.specs.Values.{listOf}
+use Rattle.grammar.specs.internal.Tables.{opCount, formCount}
 use Rattle.grammar.proofs.Tables.{in-table, next-in-table, formAt, form-fits, form-ends, form-sizes}
 use Rattle.line_writer.proofs.Written.{op-line, no-line}
 use Rattle.line_writer.proofs.writing.put_op.Statement.{statement}

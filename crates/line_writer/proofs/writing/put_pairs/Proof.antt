@@ -7,7 +7,8 @@ use native.Mathlib.Omega.{arith}
 use Rattle.text.specs.Bytes.{space, joined}
 use Rattle.text.proofs.Puts.{put-append, put-length, SoFar, so-far-none, so-far-more, so-far-all}
 use Rattle.grammar.specs.Form.{writePair, continued}
-use Rattle.grammar.specs.Tables.{pairAt, listOf}
+use Rattle.grammar.specs.Values.{listOf}
+use Rattle.grammar.specs.internal.Tables.{pairAt}
 use Rattle.line_writer.proofs.Written.{leftOf, left-step, left-none, keeps-on, goes-no-further, so-far-is}
 use Rattle.line_writer.proofs.writing.put_pairs.Statement.{statement}
 use Rattle.line_writer.proofs.writing.put_pairs.Tie as tie

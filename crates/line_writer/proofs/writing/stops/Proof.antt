@@ -2,7 +2,7 @@
 use mathlib.Core.Path.{sym}
 use borrow.Author.Needs.{needs}
 use Rattle.grammar.specs.declared.Value.the-variants.{Number}
-use Rattle.grammar.specs.Tables.{stopsAt}
+use Rattle.grammar.specs.internal.Tables.{stopsAt}
 use Rattle.grammar.proofs.Tables.{pairKind}
 use Rattle.grammar.proofs.Ranges.{stops-decision, stops-not}
 use Rattle.line_writer.proofs.writing.stops.Statement.{statement}

@@ -8,7 +8,7 @@ use Rattle.word.specs.declared.Word.{Word}
 use Rattle.grammar.specs.declared.Values.{Values}
 use Rattle.grammar.specs.Grammar.{writeParts, writeLine}
 use Rattle.grammar.specs.declared.LineKind.the-variants.{Op}
-use Rattle.grammar.specs.Tables.{listOf}
+use Rattle.grammar.specs.Values.{listOf}
 use Rattle.op_lines.specs.Values.{opValues}
 use Rattle.op_lines.specs.Lines.{opLineOf}
 use Rattle.op_lines.proofs.Written.{written}

@@ -5,7 +5,7 @@ use Rattle.word.specs.Profile.{LP5523}
 use Rattle.grammar.specs.declared.LineKind.the-variants.{Op}
 use Rattle.grammar.specs.declared.LineRead.the-variants.{Read, Refused}
 use Rattle.grammar.specs.Grammar.{readLine}
-use Rattle.grammar.specs.Tables.{lineReadOf}
+use Rattle.grammar.specs.Values.{lineReadOf}
 use Rattle.grammar.proofs.Exactly.{refuses-exactly}
 use Rattle.op_lines.proofs.Answered.{refused-as, read-code, refused-code}
 use Rattle.op_codec.proofs.reading.assemble_line.Statement.{statement}

@@ -3,7 +3,7 @@ use mathlib.Core.Path.{refl}
 use Rattle.word.specs.Profile.{LP5523}
 use Rattle.laws.proofs.Matches.{via}
 use Rattle.word.proofs.Later.{later, undefined}
-use Rattle.grammar.specs.Tables.{valuesOf}
+use Rattle.grammar.specs.Values.{valuesOf}
 use Rattle.op_lines.specs.Values.{opValues, wordValues}
 use Rattle.op_codec.proofs.values.later_values.Statement.{statement}
 use Rattle.op_codec.proofs.values.later_values.Tie as tie

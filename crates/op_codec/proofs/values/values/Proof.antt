@@ -1,6 +1,6 @@
 -- `op_codec::values::values` meets its contract.
 use mathlib.Core.Path.{refl}
-use Rattle.grammar.specs.Tables.{valuesOf}
+use Rattle.grammar.specs.Values.{valuesOf}
 use Rattle.op_codec.proofs.values.values.Statement.{statement}
 use Rattle.op_codec.proofs.values.values.Tie as tie
 

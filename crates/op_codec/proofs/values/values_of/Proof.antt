@@ -4,7 +4,7 @@ use native.Mathlib.Omega.{arith}
 use Rattle.word.specs.Profile.{LP5523}
 use Rattle.laws.proofs.Matches.{via}
 use Rattle.word.proofs.Later.{later}
-use Rattle.grammar.specs.Tables.{valuesOf}
+use Rattle.grammar.specs.Values.{valuesOf}
 use Rattle.op_lines.specs.Values.{opValues, wordValues}
 use Rattle.op_codec.proofs.values.values_of.Statement.{statement}
 use Rattle.op_codec.proofs.values.values_of.Tie as tie

@@ -12,7 +12,7 @@ use Rattle.word.specs.declared.Word.the-variants.{Undefined}
 use Rattle.laws.proofs.Tests.{by-test}
 use Rattle.laws.proofs.Matches.{via}
 use Rattle.grammar.specs.declared.Values.{Values}
-use Rattle.grammar.specs.Tables.{listOf}
+use Rattle.grammar.specs.Values.{listOf}
 use Rattle.op_lines.specs.Words.{wordsWith, wordOf}
 use Rattle.op_codec.proofs.words.word_of.Statement.{statement}
 use Rattle.op_codec.proofs.words.word_of.Tie as tie

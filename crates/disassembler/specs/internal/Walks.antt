@@ -1,4 +1,4 @@
--- How the functions' steps make up a sheet. That together they are its writing is proved in proofs/; nothing here has to be believed.
+-- How the functions' steps make up a sheet. That together they are its writing is proved in proofs/.
 use Prim.Native.Nat.{ℕ, _+_, _-_}
 use mathlib.Core.Bool.{cond, not}
 use mathlib.Core.List.{List}

@@ -1,5 +1,5 @@
--- The grammar as the tables that the functions go by, and what they answer from them. That the tables are the grammar's is proved. Contracts
--- of public functions speak of `valuesOf`, `listOf` and `lineReadOf`; nothing else here has to be believed.
+-- The grammar as the tables that the functions go by, and what they answer from them. That the tables are the grammar's is proved in
+-- proofs/.
 use Prim.Native.Nat.{ℕ, min}
 use mathlib.Core.Bool.{Bool, true, false, not, cond}
 use mathlib.Core.List.{List, [], _∷_, _++_, map}
@@ -13,7 +13,7 @@ use Rattle.grammar.specs.declared.Value.the-variants.{Number, Malformed,
 use Rattle.grammar.specs.declared.Values.{Values}
 use Rattle.grammar.specs.declared.LineRead.{LineRead}
 use Rattle.grammar.specs.declared.LineRead.the-variants.{Read, Refused}
-use Rattle.grammar.specs.Form.{Kind, number, keyword, decision, answers, Pair, Reading, values, refused, before, atEnd, unknown}
+use Rattle.grammar.specs.Form.{Kind, number, keyword, decision, answers, Pair, Reading, refused, before, atEnd, unknown}
 use Rattle.grammar.specs.Grammar.{OpLine, opLines, opNames, directions, variables, targets, planPairs}
 
 -- How many entries the tables have: operations, names, the bytes of all names, kinds of numbers, all kinds, pairs, forms.
@@ -113,18 +113,6 @@ stoppedBy k Outside ps = unknown k ps
 -- The parts of a line that begin at a place or after it; past the line's end there are none.
 unfoldable pub partsFrom : ℕ → List ℕ → List (List ℕ)
 partsFrom at line = cond (leb at (length line)) (split space (drop at line)) []
-
--- The values of a line: at most seven, 0 past the last.
-unfoldable pub valuesOf : List ℕ → Values
-valuesOf ns =
-    record { a = getD ns 0 0; b = getD ns 1 0; c = getD ns 2 0; d = getD ns 3 0; e = getD ns 4 0; f = getD ns 5 0; g = getD ns 6 0 }
-
-unfoldable pub listOf : Values → List ℕ
-listOf v = v .a ∷ v .b ∷ v .c ∷ v .d ∷ v .e ∷ v .f ∷ v .g ∷ []
-
-unfoldable pub lineReadOf : Reading → LineRead
-lineReadOf (values ns) = Read (valuesOf ns)
-lineReadOf (refused k) = Refused k
 
 -- A value before others, as the functions have them.
 abbrev pub shifted : ℕ → Values → Values

@@ -1,4 +1,4 @@
--- How the functions' steps go on with a sheet. That together they are its reading is proved in proofs/; nothing here has to be believed.
+-- How the functions' steps go on with a sheet. That together they are its reading is proved in proofs/.
 use Prim.Native.Nat.{ℕ, _+_, _≤_}
 use mathlib.Core.List.{List, [], _∷_, _++_}
 use lib.ListN.{length, drop}
