@@ -14,8 +14,8 @@ use Rattle.machine.specs.declared.Progress.the-variants.{BetweenWords, Waiting,
 use Rattle.machine.specs.declared.Effect.the-variants.{Keep}
 use Rattle.machine.specs.declared.Engine.{Engine}
 use Rattle.machine.specs.declared.Chip.{Chip}
-use Rattle.machine.specs.declared.Turned.{Turned}
-use Rattle.machine.specs.declared.Ticked.{Ticked}
+use Rattle.machine.specs.declared.TurnResult.{TurnResult}
+use Rattle.machine.specs.declared.TickResult.{TickResult}
 use Rattle.machine.specs.Parts.{engineAt, withProgress, withEngines}
 use Rattle.machine.specs.WordEnd.{lasts, goesOn}
 use Rattle.machine.specs.Durations.{waits}
@@ -36,7 +36,7 @@ goes-on c d memory e (Waiting n) h = let g = ltb-true 0 (n - 1) h in ap (λ (b :
 goes-on c d memory e (Ramping dir p l n) h = absurd (false≢true h)
 goes-on c d memory e (Triggering w x) h = absurd (false≢true h)
 
-abbrev still : Chip → Turned
+abbrev still : Chip → TurnResult
 still m = record { chip = m; send = 0; ended = false }
 
 module _ (i : ℕ) (m : Chip) where
@@ -69,7 +69,7 @@ module _ (i : ℕ) (m : Chip) where
           ∙ ap (λ (es : List Engine). still (withEngines es m)) s
           ∙ sym (turn-rests LP5523 i m a)
 
-pub idle-beat : (f : Fixed) (k : Cores) (l : Lent) → allIdle (chipOf f k l .engines) ≡ true → _≡_ {A = Ticked} (record { chip = allIdled (chipOf f k l); pin = false; ended = false ∷ false ∷ false ∷ [] }) (turns LP5523 3 0 (chipOf f k l))
+pub idle-beat : (f : Fixed) (k : Cores) (l : Lent) → allIdle (chipOf f k l .engines) ≡ true → _≡_ {A = TickResult} (record { chip = allIdled (chipOf f k l); pin = false; ended = false ∷ false ∷ false ∷ [] }) (turns LP5523 3 0 (chipOf f k l))
 idle-beat f k l h =
     three-turns m (still m1) (still m2) (still m3)
     (idle-turn 0 m (and-left (idles e1) _ h) refl)

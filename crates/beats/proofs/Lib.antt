@@ -5,4 +5,4 @@ pub mod Loops
 pub mod TurnOf
 pub mod IdleOf
 pub mod SpanOf
-pub mod AdvanceOf
+pub mod RunBeatsOf

@@ -11,9 +11,9 @@ use Rattle.laws.proofs.Tests.{by-test}
 use Rattle.word.specs.Profile.{LP5523}
 use Rattle.machine.specs.declared.Chip.{Chip}
 use Rattle.machine.specs.declared.Engine.{Engine}
-use Rattle.machine.specs.declared.Turned.{Turned}
-use Rattle.machine.specs.declared.Ticked.{Ticked}
-use Rattle.machine.specs.declared.Ran.{Ran}
+use Rattle.machine.specs.declared.TurnResult.{TurnResult}
+use Rattle.machine.specs.declared.TickResult.{TickResult}
+use Rattle.machine.specs.declared.RunResult.{RunResult}
 use Rattle.machine.specs.declared.Outcome.the-variants.{Success}
 use Rattle.machine.specs.Parts.{each, engineAt, withEngines}
 use Rattle.machine.specs.Triggers.{pulsed}
@@ -72,7 +72,7 @@ unfolding spanOf beatsMore
 span-ran zero s = refl
 span-ran (suc n) s = go (quiet (s .ran .chip)) (spanOf n (oneBeatMore s)) (beatsMore LP5523 n (oneBeatMore s .ran)) (span-ran n (oneBeatMore s))
   where
-    go : (b : Bool) (x : Span) (y : Ran) → x .ran ≡ y → cond b s x .ran ≡ cond b (s .ran) y
+    go : (b : Bool) (x : Span) (y : RunResult) → x .ran ≡ y → cond b s x .ran ≡ cond b (s .ran) y
     go true x y e = refl
     go false x y e = e
 
@@ -88,7 +88,7 @@ span-on most f r l l′ t a b c h q e p p′ p″ =
     with-words : List ℕ → Span
     with-words ws = record { ran = record { outcome = Success; chip = chipOf f (t .cores) l′; beats = r .beats + 1; words = ws }; pin = t .pin }
 
-    of : Ticked → Span
+    of : TickResult → Span
     of x = record { ran = record { outcome = Success; chip = x .chip; beats = r .beats + 1; words = tally (x .ended) (r .words1 ∷ r .words2 ∷ r .words3 ∷ []) }; pin = x .pin }
 
     one : with-words (a ∷ b ∷ c ∷ []) ≡ oneBeatMore (spanned f r l)
@@ -97,10 +97,10 @@ span-on most f r l l′ t a b c h q e p p′ p″ =
         ∙ ap of (e ∙ sym (busy-tick (chipOf f (r .cores) l) q))
 
 -- a beat in which no engine acts
-nothing-turns : (m : Chip) → acts (engineAt LP5523 m 0) ≡ false → acts (engineAt LP5523 m 1) ≡ false → acts (engineAt LP5523 m 2) ≡ false → _≡_ {A = Ticked} (record { chip = m; pin = false; ended = false ∷ false ∷ false ∷ [] }) (turns LP5523 3 0 m)
+nothing-turns : (m : Chip) → acts (engineAt LP5523 m 0) ≡ false → acts (engineAt LP5523 m 1) ≡ false → acts (engineAt LP5523 m 2) ≡ false → _≡_ {A = TickResult} (record { chip = m; pin = false; ended = false ∷ false ∷ false ∷ [] }) (turns LP5523 3 0 m)
 nothing-turns m p q r = three-turns m same same same (sym (turn-rests LP5523 0 m p)) (sym (turn-rests LP5523 1 m q)) (sym (turn-rests LP5523 2 m r))
   where
-    same : Turned
+    same : TurnResult
     same = record { chip = m; send = 0; ended = false }
 
 none-acts : (m : Chip) → quiet m ≡ true → stopped m ≡ false → some acts (m .engines) ≡ false
@@ -130,7 +130,7 @@ one-beat m l s =
     ap tickedFrom (span-quiet 1 (noBeat m) q) ∙ nothing-turns m (none-at (m .engines) _ 0 (omega arith) h) (none-at (m .engines) _ 1 (omega arith) h) (none-at (m .engines) _ 2 (omega arith) h))
     (λ q.
     ap tickedFrom (span-busy 0 (noBeat m) q ∙ span-done 0 (oneBeatMore (noBeat m)) refl)
-    ∙ ap (λ (t : Ticked). tickedFrom (record { ran = record { outcome = Success; chip = t .chip; beats = 1; words = tally (t .ended) (0 ∷ 0 ∷ 0 ∷ []) }; pin = t .pin })) (busy-tick m q)
+    ∙ ap (λ (t : TickResult). tickedFrom (record { ran = record { outcome = Success; chip = t .chip; beats = 1; words = tally (t .ended) (0 ∷ 0 ∷ 0 ∷ []) }; pin = t .pin })) (busy-tick m q)
     ∙ counted m)
 
 -- a pulse stops no chip
@@ -173,5 +173,5 @@ run-of-span n m h =
     none false = refl
 
 -- the beat, as its three engines' counts tell which ended a word
-pub ended-three : (s : Span) (d : ℕ) → length (s .ran .words) ≡ 3 → _≡_ {A = Ticked} (record { chip = s .ran .chip; pin = s .pin; ended = eqb (getD (s .ran .words) 0 d) 1 ∷ eqb (getD (s .ran .words) 1 d) 1 ∷ eqb (getD (s .ran .words) 2 d) 1 ∷ [] }) (tickedFrom s)
+pub ended-three : (s : Span) (d : ℕ) → length (s .ran .words) ≡ 3 → _≡_ {A = TickResult} (record { chip = s .ran .chip; pin = s .pin; ended = eqb (getD (s .ran .words) 0 d) 1 ∷ eqb (getD (s .ran .words) 1 d) 1 ∷ eqb (getD (s .ran .words) 2 d) 1 ∷ [] }) (tickedFrom s)
 ended-three s d l = sym (ap (λ (ws : List ℕ). record { chip = s .ran .chip; pin = s .pin; ended = map (λ (n : ℕ). eqb n 1) ws }) (three d (s .ran .words) l))

@@ -12,9 +12,9 @@ use Rattle.word.specs.Profile.{Profile, LP5523}
 use Rattle.machine.specs.declared.Engine.{Engine}
 use Rattle.machine.specs.declared.Output.{Output}
 use Rattle.machine.specs.declared.Chip.{Chip}
-use Rattle.machine.specs.declared.Act.{Act}
-use Rattle.machine.specs.declared.Turned.{Turned}
-use Rattle.machine.specs.declared.Ticked.{Ticked}
+use Rattle.machine.specs.declared.BeatResult.{BeatResult}
+use Rattle.machine.specs.declared.TurnResult.{TurnResult}
+use Rattle.machine.specs.declared.TickResult.{TickResult}
 use Rattle.machine.specs.declared.Effect.the-variants.{Keep}
 use Rattle.machine.specs.Parts.{bit, each, engineAt, withPending, withEngines}
 use Rattle.machine.specs.Outputs.{rowBit, holder, outputAfter}
@@ -44,7 +44,7 @@ applied-rests : (P : Profile) (i : ℕ) (m : Chip) → set (m .engines) i (engin
 applied-rests P i m h = applied-alone P i m (engineAt P m i) ∙ ap (λ (es : List Engine). record { chip = withEngines es m; send = 0; ended = false }) h
 
 -- a turn is what the engine does, applied to the chip
-pub turn-is : (P : Profile) (i : ℕ) (m : Chip) (t : Act) (d : ℕ) (memory : List ℕ) → set (m .engines) i (engineAt P m i) ≡ m .engines → m .d ≡ d → m .memory ≡ memory → t ≡ cond (acts (engineAt P m i)) (beatOf P (m .c) d memory (engineAt P m i) (engineAt P m i .progress)) (rests (m .c) (engineAt P m i)) → applied P i m t ≡ turn P i m
+pub turn-is : (P : Profile) (i : ℕ) (m : Chip) (t : BeatResult) (d : ℕ) (memory : List ℕ) → set (m .engines) i (engineAt P m i) ≡ m .engines → m .d ≡ d → m .memory ≡ memory → t ≡ cond (acts (engineAt P m i)) (beatOf P (m .c) d memory (engineAt P m i) (engineAt P m i .progress)) (rests (m .c) (engineAt P m i)) → applied P i m t ≡ turn P i m
 turn-is P i m t d memory s p q h =
     let g = h ∙ ap₂ (λ (x : ℕ) (y : List ℕ). cond (acts (engineAt P m i)) (beatOf P (m .c) x y (engineAt P m i) (engineAt P m i .progress)) (rests (m .c) (engineAt P m i))) (sym p) (sym q) in
     by-test (acts (engineAt P m i))
@@ -52,10 +52,10 @@ turn-is P i m t d memory s p q h =
     (λ a. ap (applied P i m) (rw a at g) ∙ applied-rests P i m s ∙ sym (turn-rests P i m a))
 
 -- the parts of an act applied to a chip: the levels of its outputs, and the engines with the triggers received
-pub applied-parts : (i held : ℕ) (m : Chip) (t : Act) (levels after : List ℕ) (n : Chip) →
+pub applied-parts : (i held : ℕ) (m : Chip) (t : BeatResult) (levels after : List ℕ) (n : Chip) →
     m .outputs ≡ map outputOf levels → Holds held (m .engines) i → after ≡ levelsAfter held (t .effect) levels →
     n ≡ withEngines (each (receives i (t .send)) 0 (set (m .engines) i (t .own))) (record { enabled = m .enabled; c = t .c; d = m .d; page = m .page; memory = m .memory; outputs = map outputOf after; engines = m .engines }) →
-    _≡_ {A = Turned} (record { chip = n; send = t .send; ended = t .ended }) (applied LP5523 i m t)
+    _≡_ {A = TurnResult} (record { chip = n; send = t .send; ended = t .ended }) (applied LP5523 i m t)
 applied-parts i held m t levels after n o h a e =
     ap (λ (x : Chip). record { chip = x; send = t .send; ended = t .ended }) e
     ∙ ap (λ (os : List Output). record { chip = record { enabled = m .enabled; c = t .c; d = m .d; page = m .page; memory = m .memory; outputs = os; engines = each (receives i (t .send)) 0 (set (m .engines) i (t .own)) }; send = t .send; ended = t .ended })
@@ -100,11 +100,11 @@ holds-three held other a b c g h k =
     go false false false = refl
 
 -- the turns of a beat, one after the other
-pub three-turns : (m : Chip) (t u v : Turned) → t ≡ turn LP5523 0 m → u ≡ turn LP5523 1 (t .chip) → v ≡ turn LP5523 2 (u .chip) →
-    _≡_ {A = Ticked} (record { chip = v .chip; pin = toPin (t .send) || (toPin (u .send) || (toPin (v .send) || false)); ended = t .ended ∷ u .ended ∷ v .ended ∷ [] }) (turns LP5523 3 0 m)
+pub three-turns : (m : Chip) (t u v : TurnResult) → t ≡ turn LP5523 0 m → u ≡ turn LP5523 1 (t .chip) → v ≡ turn LP5523 2 (u .chip) →
+    _≡_ {A = TickResult} (record { chip = v .chip; pin = toPin (t .send) || (toPin (u .send) || (toPin (v .send) || false)); ended = t .ended ∷ u .ended ∷ v .ended ∷ [] }) (turns LP5523 3 0 m)
 unfolding turns
 three-turns m t u v p q r =
-    let g = q ∙ ap (λ (x : Turned). turn LP5523 1 (x .chip)) p in
-    let h = r ∙ ap (λ (x : Turned). turn LP5523 2 (x .chip)) g in
-    ap (λ (x : Turned). record { chip = v .chip; pin = toPin (x .send) || (toPin (u .send) || (toPin (v .send) || false)); ended = x .ended ∷ u .ended ∷ v .ended ∷ [] }) p
-    ∙ ap₂ (λ (x y : Turned). record { chip = y .chip; pin = toPin (turn LP5523 0 m .send) || (toPin (x .send) || (toPin (y .send) || false)); ended = turn LP5523 0 m .ended ∷ x .ended ∷ y .ended ∷ [] }) g h
+    let g = q ∙ ap (λ (x : TurnResult). turn LP5523 1 (x .chip)) p in
+    let h = r ∙ ap (λ (x : TurnResult). turn LP5523 2 (x .chip)) g in
+    ap (λ (x : TurnResult). record { chip = v .chip; pin = toPin (x .send) || (toPin (u .send) || (toPin (v .send) || false)); ended = x .ended ∷ u .ended ∷ v .ended ∷ [] }) p
+    ∙ ap₂ (λ (x y : TurnResult). record { chip = y .chip; pin = toPin (turn LP5523 0 m .send) || (toPin (x .send) || (toPin (y .send) || false)); ended = turn LP5523 0 m .ended ∷ x .ended ∷ y .ended ∷ [] }) g h

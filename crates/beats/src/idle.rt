@@ -1,7 +1,7 @@
 // Beats in which the engines do no more than wait: nearly all, where lights stay on long enough to be
 // seen. They are told apart first, since they need no engine's turn.
 use crate::Cores;
-use engine_core::Core;
+use engine_core::EngineCore;
 use engine_core::Status;
 use engine_core::acts;
 use machine::Progress;
@@ -29,7 +29,7 @@ fn left_of(progress: Progress) -> u16
     }
 }
 
-fn wait_left(k: Core) -> u16
+fn wait_left(k: EngineCore) -> u16
     ensures { λ r. ⌜ ((counts : List ℕ) → r ≡ waitLeft (engineOf k counts)) ⌝ }
 {
     let status = k.status;
@@ -40,7 +40,7 @@ fn wait_left(k: Core) -> u16
     left_of(progress)
 }
 
-fn idles(k: Core) -> bool
+fn idles(k: EngineCore) -> bool
     ensures { λ r. ⌜ ((counts : List ℕ) → r ≡ idles (engineOf k counts)) ⌝ }
 {
     if !acts(k) {
@@ -49,7 +49,7 @@ fn idles(k: Core) -> bool
     wait_left(k) > 0
 }
 
-fn idled(mut k: Core) -> Core
+fn idled(mut k: EngineCore) -> EngineCore
     ensures { λ r. ⌜ ((counts : List ℕ) → engineOf r counts ≡ idled (engineOf k counts)) ⌝ }
 {
     let left = wait_left(k);

@@ -10,22 +10,22 @@ mod stops;
 mod turns;
 mod whole;
 
-use engine_core::Core;
-use machine::Ran;
-pub use whole::advance;
+use engine_core::EngineCore;
+use machine::RunResult;
+pub use whole::run_beats;
 
 // Beats one after another: what a run of them answers, and whether the last sent to the pin.
 pub struct Span {
-    pub ran: Ran,
+    pub ran: RunResult,
     pub pin: bool,
 }
 
 // Variable C and the three engines, without their branch counts.
 pub struct Cores {
     pub c: u8,
-    pub one: Core,
-    pub two: Core,
-    pub three: Core,
+    pub one: EngineCore,
+    pub two: EngineCore,
+    pub three: EngineCore,
 }
 
 // What an engine's turn gives.

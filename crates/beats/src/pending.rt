@@ -1,6 +1,6 @@
 // Triggers that become pending.
 use crate::Cores;
-use engine_core::Core;
+use engine_core::EngineCore;
 ghost use mathlib.Core.Bool.{cond};
 ghost use mathlib.Core.List.{List};
 ghost use mathlib.Core.Path.{_≡_};
@@ -16,7 +16,7 @@ ghost use Rattle.beats.specs.internal.Parts.{Fixed, Lent, chipOf};
 const PIN: u16 = 32;
 
 // A core with a bit pending, if it is named.
-fn with_bit(mut k: Core, bit: u16, named: bool) -> Core
+fn with_bit(mut k: EngineCore, bit: u16, named: bool) -> EngineCore
     ensures { λ r. ⌜ ((counts : List ℕ) → engineOf r counts ≡ cond named (withPending (bitOr (k .pending) bit) (engineOf k counts)) (engineOf k counts)) ⌝ }
 {
     if named {

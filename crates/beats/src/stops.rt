@@ -1,7 +1,7 @@
 // Whether a beat changes nothing, and whether a run stops before it.
 use super::beats::any;
 use crate::Cores;
-use engine_core::Core;
+use engine_core::EngineCore;
 use engine_core::acts;
 use engine_core::is_load;
 ghost use mathlib.Core.List.{List};
@@ -12,7 +12,7 @@ ghost use Rattle.machine.specs.Run.{quiet};
 ghost use Rattle.engine_core.specs.Core.{engineOf};
 ghost use Rattle.beats.specs.internal.Parts.{Fixed, Lent, chipOf};
 
-fn loads(k: Core) -> bool
+fn loads(k: EngineCore) -> bool
     ensures { λ r. ⌜ ((counts : List ℕ) → r ≡ loads (engineOf k counts)) ⌝ }
 {
     let status = k.status;

@@ -9,7 +9,7 @@ use super::stops::stopped;
 use crate::Span;
 use machine::Chip;
 use machine::Outcome;
-use machine::Ran;
+use machine::RunResult;
 ghost use mathlib.Core.Bool.{not, _&&_};
 ghost use mathlib.Core.Path.{_≡_};
 ghost use Rattle.beats.specs.Spans.{withPulseTaken, noBeat, spanOf};
@@ -26,7 +26,7 @@ fn taken(stopped: bool, pulse: bool) -> bool
 
 // A pulse at the pin, if given, and then at most so many beats; it stops before a beat if all is
 // quiet. A chip that is stopped takes no pulse.
-pub fn advance(chip: Chip, pulse: bool, most: u32) -> Span
+pub fn run_beats(chip: Chip, pulse: bool, most: u32) -> Span
     ensures { λ r. ⌜ r ≡ spanOf most (noBeat (withPulseTaken pulse chip)) ⌝ }
 {
     let k = cores_of(chip);
@@ -48,7 +48,7 @@ pub fn advance(chip: Chip, pulse: bool, most: u32) -> Span
         most,
     );
     let after = t.cores;
-    let ran = Ran {
+    let ran = RunResult {
         outcome: Outcome::Success,
         chip: chip_of(chip, after, levels, counts1, counts2, counts3),
         beats: t.beats,

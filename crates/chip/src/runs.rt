@@ -1,8 +1,8 @@
 // A run of beats.
-use beats::advance;
+use beats::run_beats;
 use machine::Chip;
 use machine::Outcome;
-use machine::Ran;
+use machine::RunResult;
 ghost use mathlib.Core.Path.{_≡_};
 ghost use Rattle.word.specs.Profile.{LP5523};
 ghost use Rattle.machine.specs.Run.{runOf};
@@ -11,17 +11,17 @@ ghost use Rattle.machine.specs.Run.{runOf};
 pub const MOST_BEATS: u32 = 1_000_000;
 
 // At most so many beats, without pulses; it stops before a beat if all is quiet.
-pub fn run(chip: Chip, beats: u32) -> Ran
+pub fn run(chip: Chip, beats: u32) -> RunResult
     ensures { λ r. ⌜ r ≡ runOf LP5523 beats chip ⌝ }
 {
     if beats > MOST_BEATS {
-        return Ran {
+        return RunResult {
             outcome: Outcome::TooManyBeats,
             chip,
             beats: 0,
             words: [0; 3],
         };
     }
-    let s = advance(chip, false, beats);
+    let s = run_beats(chip, false, beats);
     s.ran
 }

@@ -2,8 +2,8 @@
 use super::variables::variable;
 use super::word_end::ends;
 use super::word_end::goes_on;
-use crate::CoreAct;
-use engine_core::Core;
+use crate::CoreResult;
+use engine_core::EngineCore;
 use machine::Effect;
 use word::Step;
 ghost use mathlib.Core.Path.{_≡_};
@@ -14,13 +14,13 @@ ghost use Rattle.engine_core.specs.Core.{engineOf};
 ghost use Rattle.engine.specs.Act.{actOf};
 
 pub(super) fn branches(
-    k: Core,
+    k: EngineCore,
     counts: &mut [u8; 96],
     c: u8,
     at: usize,
     loops: u8,
     step: Step,
-) -> CoreAct
+) -> CoreResult
     requires { ⌜ at < 96 ⌝ }
     ensures { λ r. ⌜ actOf r (now (counts .exit)) ≡ branches c (engineOf k (now (counts .entry))) at loops step ⌝ }
 {
@@ -39,14 +39,14 @@ pub(super) fn branches(
 
 // A branch whose loops are read from a variable.
 pub(super) fn branch_var(
-    k: Core,
+    k: EngineCore,
     counts: &mut [u8; 96],
     c: u8,
     d: u8,
     at: usize,
     loops: u16,
     step: Step,
-) -> CoreAct
+) -> CoreResult
     requires { ⌜ at < 96 ⌝ }
     ensures { λ r. ⌜ actOf r (now (counts .exit)) ≡ branches c (engineOf k (now (counts .entry))) at (variable c d (engineOf k (now (counts .entry))) loops) step ⌝ }
 {

@@ -1,10 +1,10 @@
 // Words that last: waits and ramps.
-use super::word_end::advance;
 use super::word_end::ends;
 use super::word_end::goes_on;
 use super::word_end::lasts;
-use crate::CoreAct;
-use engine_core::Core;
+use super::word_end::step_pc;
+use crate::CoreResult;
+use engine_core::EngineCore;
 use machine::Effect;
 use machine::Progress;
 use word::Direction;
@@ -15,7 +15,7 @@ ghost use Prim.Native.Nat.{ℕ, _-_, _≤_};
 ghost use lib.Dec.{leb};
 ghost use Rattle.machine.specs.declared.Effect.the-variants.{Move};
 ghost use Rattle.machine.specs.declared.Progress.the-variants.{Ramping};
-ghost use Rattle.machine.specs.WordEnd.{advance, ends, lasts};
+ghost use Rattle.machine.specs.WordEnd.{stepPc, ends, lasts};
 ghost use Rattle.machine.specs.Durations.{beatsOf, clampTime, waits, ramps, rampsFrom};
 ghost use Rattle.engine_core.specs.Core.{engineOf};
 ghost use Rattle.engine.specs.Act.{actOf};
@@ -39,7 +39,7 @@ pub(super) fn clamp_time(time: u8) -> u16
     time as u16
 }
 
-pub(super) fn waits(k: Core, c: u8, left: u16) -> CoreAct
+pub(super) fn waits(k: EngineCore, c: u8, left: u16) -> CoreResult
     ensures { λ r. ⌜ ((counts : List ℕ) → actOf r counts ≡ waits c (engineOf k counts) left) ⌝ }
 {
     if left <= 1 {
@@ -49,12 +49,12 @@ pub(super) fn waits(k: Core, c: u8, left: u16) -> CoreAct
 }
 
 // The last beat of a part.
-fn part_ends(k: Core, c: u8, dir: Direction, part: u16, parts: u16) -> CoreAct
-    ensures { λ r. ⌜ ((counts : List ℕ) → actOf r counts ≡ cond (leb parts 1) (ends c (engineOf k counts) (Move dir) 0 (advance (k .pc) 1)) (lasts c (engineOf k counts) (Move dir) (Ramping dir part part (parts - 1)))) ⌝ }
+fn part_ends(k: EngineCore, c: u8, dir: Direction, part: u16, parts: u16) -> CoreResult
+    ensures { λ r. ⌜ ((counts : List ℕ) → actOf r counts ≡ cond (leb parts 1) (ends c (engineOf k counts) (Move dir) 0 (stepPc (k .pc) 1)) (lasts c (engineOf k counts) (Move dir) (Ramping dir part part (parts - 1)))) ⌝ }
 {
     if parts <= 1 {
         let pc = k.pc;
-        return ends(k, c, Effect::Move { dir }, 0, advance(pc, 1));
+        return ends(k, c, Effect::Move { dir }, 0, step_pc(pc, 1));
     }
     let progress = Progress::Ramping {
         dir,
@@ -65,7 +65,14 @@ fn part_ends(k: Core, c: u8, dir: Direction, part: u16, parts: u16) -> CoreAct
     lasts(k, c, Effect::Move { dir }, progress)
 }
 
-pub(super) fn ramps(k: Core, c: u8, dir: Direction, part: u16, left: u16, parts: u16) -> CoreAct
+pub(super) fn ramps(
+    k: EngineCore,
+    c: u8,
+    dir: Direction,
+    part: u16,
+    left: u16,
+    parts: u16,
+) -> CoreResult
     ensures { λ r. ⌜ ((counts : List ℕ) → actOf r counts ≡ ramps c (engineOf k counts) dir part left parts) ⌝ }
 {
     if left <= 1 {
@@ -80,7 +87,7 @@ pub(super) fn ramps(k: Core, c: u8, dir: Direction, part: u16, left: u16, parts:
     lasts(k, c, Effect::Keep, progress)
 }
 
-pub(super) fn ramps_from(k: Core, c: u8, dir: Direction, part: u16, parts: u16) -> CoreAct
+pub(super) fn ramps_from(k: EngineCore, c: u8, dir: Direction, part: u16, parts: u16) -> CoreResult
     ensures { λ r. ⌜ ((counts : List ℕ) → actOf r counts ≡ rampsFrom c (engineOf k counts) dir part parts) ⌝ }
 {
     if parts == 0 {

@@ -12,13 +12,13 @@ mod variables;
 mod word_end;
 mod words;
 
-use engine_core::Core;
+use engine_core::EngineCore;
 use machine::Effect;
 pub use turns::turn;
 
 // What a beat gives, but for the branch counts.
-pub struct CoreAct {
-    pub own: Core,
+pub struct CoreResult {
+    pub own: EngineCore,
     pub c: u8,
     pub effect: Effect,
     pub send: u16,

@@ -2,8 +2,8 @@
 use super::word_end::ends;
 use super::word_end::finish;
 use super::word_end::goes_on;
-use crate::CoreAct;
-use engine_core::Core;
+use crate::CoreResult;
+use engine_core::EngineCore;
 use engine_core::Status;
 use machine::Effect;
 use machine::Exec;
@@ -24,7 +24,7 @@ ghost use Rattle.engine_core.specs.Core.{engineOf};
 ghost use Rattle.engine.specs.Act.{actOf};
 
 // rst
-pub(super) fn restarts(k: Core, counts: &mut [u8; 96], c: u8) -> CoreAct
+pub(super) fn restarts(k: EngineCore, counts: &mut [u8; 96], c: u8) -> CoreResult
     ensures { λ r. ⌜ actOf r (now (counts .exit)) ≡ ends c (withLoops (zeroCounts LP5523) (engineOf k (now (counts .entry)))) Keep 0 (stepAt 0) ⌝ }
 {
     *counts = [0u8; 96];
@@ -32,7 +32,7 @@ pub(super) fn restarts(k: Core, counts: &mut [u8; 96], c: u8) -> CoreAct
 }
 
 // The engine after end, with its new PC.
-fn held(mut k: Core, int: bool, pc: Step) -> Core
+fn held(mut k: EngineCore, int: bool, pc: Step) -> EngineCore
     ensures { λ r. ⌜ ((counts : List ℕ) → engineOf r counts ≡ withExec Hold (finish pc (withInterrupt (k .interrupt || int) (engineOf k counts)))) ⌝ }
 {
     k.interrupt = k.interrupt | int;
@@ -61,13 +61,19 @@ fn reset_pc(pc: Step, counts: &mut [u8; 96], reset: bool) -> Step
 }
 
 // end
-pub(super) fn stops(k: Core, counts: &mut [u8; 96], c: u8, int: bool, reset: bool) -> CoreAct
+pub(super) fn stops(
+    k: EngineCore,
+    counts: &mut [u8; 96],
+    c: u8,
+    int: bool,
+    reset: bool,
+) -> CoreResult
     ensures { λ r. ⌜ actOf r (now (counts .exit)) ≡ stops LP5523 c (engineOf k (now (counts .entry))) int reset ⌝ }
 {
     let old = k.pc;
     let pc = reset_pc(old, counts, reset);
     let own = held(k, int, pc);
-    CoreAct {
+    CoreResult {
         own,
         c,
         effect: Effect::Keep,
@@ -77,7 +83,7 @@ pub(super) fn stops(k: Core, counts: &mut [u8; 96], c: u8, int: bool, reset: boo
 }
 
 // int
-pub(super) fn interrupts(mut k: Core, c: u8) -> CoreAct
+pub(super) fn interrupts(mut k: EngineCore, c: u8) -> CoreResult
     ensures { λ r. ⌜ ((counts : List ℕ) → actOf r counts ≡ goesOn c (withInterrupt true (engineOf k counts))) ⌝ }
 {
     k.interrupt = true;
@@ -85,7 +91,7 @@ pub(super) fn interrupts(mut k: Core, c: u8) -> CoreAct
 }
 
 // An undefined word.
-pub(super) fn faults(mut k: Core, c: u8) -> CoreAct
+pub(super) fn faults(mut k: EngineCore, c: u8) -> CoreResult
     ensures { λ r. ⌜ ((counts : List ℕ) → actOf r counts ≡ faults c (engineOf k counts)) ⌝ }
 {
     let status = k.status;
@@ -98,7 +104,7 @@ pub(super) fn faults(mut k: Core, c: u8) -> CoreAct
     };
     k.status = halted;
     k.fault = true;
-    CoreAct {
+    CoreResult {
         own: k,
         c,
         effect: Effect::Keep,

@@ -1,8 +1,8 @@
 // Words that set the mask or the pointers into the mapping table.
 use super::memory::word_at;
 use super::word_end::goes_on;
-use crate::CoreAct;
-use engine_core::Core;
+use crate::CoreResult;
+use engine_core::EngineCore;
 use machine::Pointers;
 use word::Address;
 use word::MuxAtOp;
@@ -59,14 +59,14 @@ fn mask_at(memory: &[u16; 96], index: Address) -> u16
     word_at(memory, index.0 as usize) & OUTPUT_BITS
 }
 
-fn loads(mut k: Core, c: u8, table: Pointers) -> CoreAct
+fn loads(mut k: EngineCore, c: u8, table: Pointers) -> CoreResult
     ensures { λ r. ⌜ ((memory counts : List ℕ) → actOf r counts ≡ points LP5523 c memory (engineOf k counts) false table) ⌝ }
 {
     k.table = table;
     goes_on(k, c)
 }
 
-fn maps(mut k: Core, c: u8, memory: &[u16; 96], table: Pointers) -> CoreAct
+fn maps(mut k: EngineCore, c: u8, memory: &[u16; 96], table: Pointers) -> CoreResult
     ensures { λ r. ⌜ ((counts : List ℕ) → actOf r counts ≡ points LP5523 c (now (memory .entry)) (engineOf k counts) true table) ⌝ }
 {
     let index = table.index;
@@ -123,7 +123,13 @@ fn backward(t: Pointers) -> Pointers
     row_at(t, previous_index(t))
 }
 
-pub(super) fn mux_at(k: Core, c: u8, memory: &[u16; 96], op: MuxAtOp, address: Address) -> CoreAct
+pub(super) fn mux_at(
+    k: EngineCore,
+    c: u8,
+    memory: &[u16; 96],
+    op: MuxAtOp,
+    address: Address,
+) -> CoreResult
     ensures { λ r. ⌜ ((counts : List ℕ) → actOf r counts ≡ points LP5523 c (now (memory .entry)) (engineOf k counts) (mapsAt op) (pointed LP5523 (useAt op address) (k .table))) ⌝ }
 {
     let t = k.table;
@@ -136,7 +142,7 @@ pub(super) fn mux_at(k: Core, c: u8, memory: &[u16; 96], op: MuxAtOp, address: A
     }
 }
 
-pub(super) fn mux_move(k: Core, c: u8, memory: &[u16; 96], op: MuxMoveOp) -> CoreAct
+pub(super) fn mux_move(k: EngineCore, c: u8, memory: &[u16; 96], op: MuxMoveOp) -> CoreResult
     ensures { λ r. ⌜ ((counts : List ℕ) → actOf r counts ≡ points LP5523 c (now (memory .entry)) (engineOf k counts) (mapsMove op) (pointed LP5523 (useMove op) (k .table))) ⌝ }
 {
     let t = k.table;
@@ -148,7 +154,7 @@ pub(super) fn mux_move(k: Core, c: u8, memory: &[u16; 96], op: MuxMoveOp) -> Cor
     }
 }
 
-pub(super) fn mux_sel(mut k: Core, c: u8, output: u16) -> CoreAct
+pub(super) fn mux_sel(mut k: EngineCore, c: u8, output: u16) -> CoreResult
     requires { ⌜ (1 ≤ output) × (output ≤ 16) ⌝ }
     ensures { λ r. ⌜ ((counts : List ℕ) → actOf r counts ≡ goesOn c (withMask (maskOfOutput output) (engineOf k counts))) ⌝ }
 {
@@ -156,7 +162,7 @@ pub(super) fn mux_sel(mut k: Core, c: u8, output: u16) -> CoreAct
     goes_on(k, c)
 }
 
-pub(super) fn mux_clr(mut k: Core, c: u8) -> CoreAct
+pub(super) fn mux_clr(mut k: EngineCore, c: u8) -> CoreResult
     ensures { λ r. ⌜ ((counts : List ℕ) → actOf r counts ≡ goesOn c (withMask 0 (engineOf k counts))) ⌝ }
 {
     k.mask = 0;

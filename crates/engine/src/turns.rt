@@ -5,8 +5,8 @@ use super::memory::word_at;
 use super::stops::restarts;
 use super::triggers::triggers;
 use super::words::begins;
-use crate::CoreAct;
-use engine_core::Core;
+use crate::CoreResult;
+use engine_core::EngineCore;
 use engine_core::acts;
 use machine::Effect;
 use machine::Progress;
@@ -24,14 +24,14 @@ ghost use Rattle.engine.specs.Act.{actOf, rests};
 // Words of program memory.
 const WORDS: usize = 96;
 
-fn address_of(k: Core) -> usize
+fn address_of(k: EngineCore) -> usize
     ensures { λ r. ⌜ r ≡ addressOf (k .start) (k .pc) ⌝ }
 {
     k.start.0 as usize + k.pc.0 as usize
 }
 
 // The first beat of the word at PC; past the memory the word is 0, which is rst.
-fn starts(k: Core, c: u8, d: u8, memory: &[u16; 96], counts: &mut [u8; 96]) -> CoreAct
+fn starts(k: EngineCore, c: u8, d: u8, memory: &[u16; 96], counts: &mut [u8; 96]) -> CoreResult
     ensures { λ r. ⌜ actOf r (now (counts .exit)) ≡ starts LP5523 c d (now (memory .entry)) (engineOf k (now (counts .entry))) ⌝ }
 {
     let at = address_of(k);
@@ -43,7 +43,7 @@ fn starts(k: Core, c: u8, d: u8, memory: &[u16; 96], counts: &mut [u8; 96]) -> C
 }
 
 // PC as the engine fetches: past the memory's last word it becomes 0 first.
-fn fetch_pc(k: Core) -> Step
+fn fetch_pc(k: EngineCore) -> Step
     ensures { λ r. ⌜ ((counts : List ℕ) → withPc r (engineOf k counts) ≡ returned LP5523 (engineOf k counts)) ⌝ }
 {
     if address_of(k) >= WORDS {
@@ -54,7 +54,7 @@ fn fetch_pc(k: Core) -> Step
 
 // The engine fetches its word. One call serves both values of PC: with a call for each, the compiler
 // would keep the core in memory.
-fn fetch(mut k: Core, c: u8, d: u8, memory: &[u16; 96], counts: &mut [u8; 96]) -> CoreAct
+fn fetch(mut k: EngineCore, c: u8, d: u8, memory: &[u16; 96], counts: &mut [u8; 96]) -> CoreResult
     ensures { λ r. ⌜ actOf r (now (counts .exit)) ≡ starts LP5523 c d (now (memory .entry)) (returned LP5523 (engineOf k (now (counts .entry)))) ⌝ }
 {
     let pc = fetch_pc(k);
@@ -63,7 +63,7 @@ fn fetch(mut k: Core, c: u8, d: u8, memory: &[u16; 96], counts: &mut [u8; 96]) -
 }
 
 // A beat of an engine that acts, by its word in progress.
-fn beat(k: Core, c: u8, d: u8, memory: &[u16; 96], counts: &mut [u8; 96]) -> CoreAct
+fn beat(k: EngineCore, c: u8, d: u8, memory: &[u16; 96], counts: &mut [u8; 96]) -> CoreResult
     ensures { λ r. ⌜ actOf r (now (counts .exit)) ≡ beatOf LP5523 c d (now (memory .entry)) (engineOf k (now (counts .entry))) (k .status .progress) ⌝ }
 {
     let status = k.status;
@@ -81,10 +81,10 @@ fn beat(k: Core, c: u8, d: u8, memory: &[u16; 96], counts: &mut [u8; 96]) -> Cor
     }
 }
 
-fn rests(k: Core, c: u8) -> CoreAct
+fn rests(k: EngineCore, c: u8) -> CoreResult
     ensures { λ r. ⌜ ((counts : List ℕ) → actOf r counts ≡ rests c (engineOf k counts)) ⌝ }
 {
-    CoreAct {
+    CoreResult {
         own: k,
         c,
         effect: Effect::Keep,
@@ -94,7 +94,7 @@ fn rests(k: Core, c: u8) -> CoreAct
 }
 
 // An engine's turn, with the branch counts, which it may change.
-pub fn turn(k: Core, c: u8, d: u8, memory: &[u16; 96], counts: &mut [u8; 96]) -> CoreAct
+pub fn turn(k: EngineCore, c: u8, d: u8, memory: &[u16; 96], counts: &mut [u8; 96]) -> CoreResult
     ensures { λ r. ⌜ actOf r (now (counts .exit)) ≡ cond (acts (engineOf k (now (counts .entry)))) (beatOf LP5523 c d (now (memory .entry)) (engineOf k (now (counts .entry))) (k .status .progress)) (rests c (engineOf k (now (counts .entry)))) ⌝ }
 {
     if !acts(k) {

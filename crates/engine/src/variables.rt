@@ -1,9 +1,9 @@
 // Variables, and the words that compute with them.
-use super::word_end::advance;
 use super::word_end::ends;
 use super::word_end::goes_on;
-use crate::CoreAct;
-use engine_core::Core;
+use super::word_end::step_pc;
+use crate::CoreResult;
+use engine_core::EngineCore;
 use machine::Effect;
 use word::ArithOp;
 use word::ArithVarOp;
@@ -11,13 +11,13 @@ use word::JumpOp;
 ghost use mathlib.Core.List.{List};
 ghost use mathlib.Core.Path.{_≡_};
 ghost use Prim.Native.Nat.{ℕ, _≤_};
-ghost use Rattle.machine.specs.WordEnd.{advance, ends};
+ghost use Rattle.machine.specs.WordEnd.{stepPc, ends};
 ghost use Rattle.machine.specs.Variables.{variable, subtracted, computed, combined, assigns, jumps, jumpTo};
 ghost use Rattle.machine.specs.declared.Effect.the-variants.{Keep};
 ghost use Rattle.engine_core.specs.Core.{engineOf};
 ghost use Rattle.engine.specs.Act.{actOf};
 
-pub(super) fn variable(k: Core, c: u8, d: u8, v: u16) -> u8
+pub(super) fn variable(k: EngineCore, c: u8, d: u8, v: u16) -> u8
     ensures { λ r. ⌜ ((counts : List ℕ) → r ≡ variable c d (engineOf k counts) v) ⌝ }
 {
     if v == 0 {
@@ -32,7 +32,7 @@ pub(super) fn variable(k: Core, c: u8, d: u8, v: u16) -> u8
     d
 }
 
-fn assigns(mut k: Core, c: u8, v: u16, x: u8) -> CoreAct
+fn assigns(mut k: EngineCore, c: u8, v: u16, x: u8) -> CoreResult
     ensures { λ r. ⌜ ((counts : List ℕ) → actOf r counts ≡ assigns c (engineOf k counts) v x) ⌝ }
 {
     if v == 0 {
@@ -85,7 +85,15 @@ fn jumps(op: JumpOp, x: u8, y: u8) -> bool
     }
 }
 
-pub(super) fn jump(k: Core, c: u8, d: u8, op: JumpOp, skip: u16, left: u16, right: u16) -> CoreAct
+pub(super) fn jump(
+    k: EngineCore,
+    c: u8,
+    d: u8,
+    op: JumpOp,
+    skip: u16,
+    left: u16,
+    right: u16,
+) -> CoreResult
     requires { ⌜ skip ≤ 31 ⌝ }
     ensures { λ r. ⌜ ((counts : List ℕ) → actOf r counts ≡ ends c (engineOf k counts) Keep 0 (jumpTo (k .pc) (jumps op (variable c d (engineOf k counts) left) (variable c d (engineOf k counts) right)) skip)) ⌝ }
 {
@@ -93,12 +101,12 @@ pub(super) fn jump(k: Core, c: u8, d: u8, op: JumpOp, skip: u16, left: u16, righ
     let x = variable(k, c, d, left);
     let y = variable(k, c, d, right);
     if jumps(op, x, y) {
-        return ends(k, c, Effect::Keep, 0, advance(pc, 1 + skip));
+        return ends(k, c, Effect::Keep, 0, step_pc(pc, 1 + skip));
     }
-    ends(k, c, Effect::Keep, 0, advance(pc, 1))
+    ends(k, c, Effect::Keep, 0, step_pc(pc, 1))
 }
 
-pub(super) fn arith(k: Core, c: u8, d: u8, op: ArithOp, to: u16, value: u16) -> CoreAct
+pub(super) fn arith(k: EngineCore, c: u8, d: u8, op: ArithOp, to: u16, value: u16) -> CoreResult
     requires { ⌜ value ≤ 255 ⌝ }
     ensures { λ r. ⌜ ((counts : List ℕ) → actOf r counts ≡ assigns c (engineOf k counts) to (computed op (variable c d (engineOf k counts) to) value)) ⌝ }
 {
@@ -107,14 +115,14 @@ pub(super) fn arith(k: Core, c: u8, d: u8, op: ArithOp, to: u16, value: u16) -> 
 }
 
 pub(super) fn arith_var(
-    k: Core,
+    k: EngineCore,
     c: u8,
     d: u8,
     op: ArithVarOp,
     to: u16,
     left: u16,
     right: u16,
-) -> CoreAct
+) -> CoreResult
     ensures { λ r. ⌜ ((counts : List ℕ) → actOf r counts ≡ assigns c (engineOf k counts) to (combined op (variable c d (engineOf k counts) left) (variable c d (engineOf k counts) right))) ⌝ }
 {
     let x = variable(k, c, d, left);

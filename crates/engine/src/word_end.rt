@@ -1,6 +1,6 @@
 // How a word goes on to its next beat, or ends.
-use crate::CoreAct;
-use engine_core::Core;
+use crate::CoreResult;
+use engine_core::EngineCore;
 use engine_core::Status;
 use machine::Effect;
 use machine::Exec;
@@ -9,12 +9,12 @@ use word::Step;
 ghost use mathlib.Core.List.{List};
 ghost use mathlib.Core.Path.{_≡_};
 ghost use Prim.Native.Nat.{ℕ};
-ghost use Rattle.machine.specs.WordEnd.{advance, pcAfter, execAfter, finish, ends, goesOn, lasts};
+ghost use Rattle.machine.specs.WordEnd.{stepPc, pcAfter, execAfter, finish, ends, goesOn, lasts};
 ghost use Rattle.engine_core.specs.Core.{engineOf};
 ghost use Rattle.engine.specs.Act.{actOf};
 
-pub(super) fn advance(pc: Step, n: u16) -> Step
-    ensures { λ r. ⌜ r ≡ advance pc n ⌝ }
+pub(super) fn step_pc(pc: Step, n: u16) -> Step
+    ensures { λ r. ⌜ r ≡ stepPc pc n ⌝ }
 {
     Step(std::num::wrapping_add_u16(pc.0, n))
 }
@@ -24,7 +24,7 @@ fn pc_after(exec: Exec, old: Step, new: Step) -> Step
 {
     match exec {
         Exec::Hold => new,
-        Exec::Step => new,
+        Exec::SingleStep => new,
         Exec::Free => new,
         Exec::Once => old,
     }
@@ -35,13 +35,13 @@ fn exec_after(exec: Exec) -> Exec
 {
     match exec {
         Exec::Hold => Exec::Hold,
-        Exec::Step => Exec::Hold,
+        Exec::SingleStep => Exec::Hold,
         Exec::Free => Exec::Free,
         Exec::Once => Exec::Hold,
     }
 }
 
-pub(super) fn finish(mut k: Core, pc: Step) -> Core
+pub(super) fn finish(mut k: EngineCore, pc: Step) -> EngineCore
     ensures { λ r. ⌜ ((counts : List ℕ) → engineOf r counts ≡ finish pc (engineOf k counts)) ⌝ }
 {
     let status = k.status;
@@ -59,11 +59,11 @@ pub(super) fn finish(mut k: Core, pc: Step) -> Core
     k
 }
 
-pub(super) fn ends(k: Core, c: u8, effect: Effect, send: u16, pc: Step) -> CoreAct
+pub(super) fn ends(k: EngineCore, c: u8, effect: Effect, send: u16, pc: Step) -> CoreResult
     ensures { λ r. ⌜ ((counts : List ℕ) → actOf r counts ≡ ends c (engineOf k counts) effect send pc) ⌝ }
 {
     let own = finish(k, pc);
-    CoreAct {
+    CoreResult {
         own,
         c,
         effect,
@@ -72,14 +72,14 @@ pub(super) fn ends(k: Core, c: u8, effect: Effect, send: u16, pc: Step) -> CoreA
     }
 }
 
-pub(super) fn goes_on(k: Core, c: u8) -> CoreAct
+pub(super) fn goes_on(k: EngineCore, c: u8) -> CoreResult
     ensures { λ r. ⌜ ((counts : List ℕ) → actOf r counts ≡ goesOn c (engineOf k counts)) ⌝ }
 {
     let pc = k.pc;
-    ends(k, c, Effect::Keep, 0, advance(pc, 1))
+    ends(k, c, Effect::Keep, 0, step_pc(pc, 1))
 }
 
-pub(super) fn lasts(mut k: Core, c: u8, effect: Effect, progress: Progress) -> CoreAct
+pub(super) fn lasts(mut k: EngineCore, c: u8, effect: Effect, progress: Progress) -> CoreResult
     ensures { λ r. ⌜ ((counts : List ℕ) → actOf r counts ≡ lasts c (engineOf k counts) effect progress) ⌝ }
 {
     let status = k.status;
@@ -91,7 +91,7 @@ pub(super) fn lasts(mut k: Core, c: u8, effect: Effect, progress: Progress) -> C
         progress,
     };
     k.status = lasting;
-    CoreAct {
+    CoreResult {
         own: k,
         c,
         effect,

@@ -19,8 +19,8 @@ use super::triggers::triggers;
 use super::variables::arith;
 use super::variables::arith_var;
 use super::variables::jump;
-use crate::CoreAct;
-use engine_core::Core;
+use crate::CoreResult;
+use engine_core::EngineCore;
 use word::Word;
 ghost use mathlib.Core.List.{List};
 ghost use mathlib.Core.Path.{_≡_};
@@ -32,7 +32,7 @@ ghost use Rattle.engine.specs.Act.{actOf};
 ghost use Rattle.engine.specs.internal.Operands.{Small, From};
 
 // Branches, end, int, triggers and undefined words.
-fn begins_control(k: Core, c: u8, counts: &mut [u8; 96], at: usize, word: Word) -> CoreAct
+fn begins_control(k: EngineCore, c: u8, counts: &mut [u8; 96], at: usize, word: Word) -> CoreResult
     requires { ⌜ (at < 96) × (Small word × From 14 word) ⌝ }
     ensures { λ r. ⌜ ((d : ℕ) (memory : List ℕ) → actOf r (now (counts .exit)) ≡ begins LP5523 c d memory (engineOf k (now (counts .entry))) at word) ⌝ }
 {
@@ -47,13 +47,13 @@ fn begins_control(k: Core, c: u8, counts: &mut [u8; 96], at: usize, word: Word) 
 
 // Words of the mapping table, and those after them.
 fn begins_table(
-    k: Core,
+    k: EngineCore,
     c: u8,
     memory: &[u16; 96],
     counts: &mut [u8; 96],
     at: usize,
     word: Word,
-) -> CoreAct
+) -> CoreResult
     requires { ⌜ (at < 96) × (Small word × From 10 word) ⌝ }
     ensures { λ r. ⌜ ((d : ℕ) → actOf r (now (counts .exit)) ≡ begins LP5523 c d (now (memory .entry)) (engineOf k (now (counts .entry))) at word) ⌝ }
 {
@@ -68,14 +68,14 @@ fn begins_table(
 
 // Words of the variables, and those after them.
 fn begins_variable(
-    k: Core,
+    k: EngineCore,
     c: u8,
     d: u8,
     memory: &[u16; 96],
     counts: &mut [u8; 96],
     at: usize,
     word: Word,
-) -> CoreAct
+) -> CoreResult
     requires { ⌜ (at < 96) × (Small word × From 6 word) ⌝ }
     ensures { λ r. ⌜ actOf r (now (counts .exit)) ≡ begins LP5523 c d (now (memory .entry)) (engineOf k (now (counts .entry))) at word ⌝ }
 {
@@ -100,14 +100,14 @@ fn begins_variable(
 
 // The first beat of a word that was fetched at an address of the memory.
 pub(super) fn begins(
-    k: Core,
+    k: EngineCore,
     c: u8,
     d: u8,
     memory: &[u16; 96],
     counts: &mut [u8; 96],
     at: usize,
     word: Word,
-) -> CoreAct
+) -> CoreResult
     requires { ⌜ (at < 96) × Small word ⌝ }
     ensures { λ r. ⌜ actOf r (now (counts .exit)) ≡ begins LP5523 c d (now (memory .entry)) (engineOf k (now (counts .entry))) at word ⌝ }
 {

@@ -1,5 +1,5 @@
 // Whether an engine acts.
-use crate::Core;
+use crate::EngineCore;
 use crate::state::mid_word;
 use machine::Exec;
 use machine::Mode;
@@ -25,14 +25,14 @@ fn is_hold(exec: Exec) -> bool
 {
     match exec {
         Exec::Hold => true,
-        Exec::Step => false,
+        Exec::SingleStep => false,
         Exec::Free => false,
         Exec::Once => false,
     }
 }
 
 // It acts in run mode, in the middle of a word or where it is not held.
-pub fn acts(k: Core) -> bool
+pub fn acts(k: EngineCore) -> bool
     ensures { λ r. ⌜ ((counts : List ℕ) → r ≡ acts (engineOf k counts)) ⌝ }
 {
     let status = k.status;

@@ -1,12 +1,12 @@
 // A core taken from an engine, and put together with its branch counts again.
-use crate::Core;
+use crate::EngineCore;
 use crate::Status;
 use machine::Engine;
 ghost use mathlib.Core.Path.{_≡_};
 ghost use Rattle.engine_core.specs.Core.{engineOf};
 
 // An engine without its branch counts.
-pub fn core_of(e: Engine) -> Core
+pub fn core_of(e: Engine) -> EngineCore
     ensures { λ r. ⌜ engineOf r (e .loops) ≡ e ⌝ }
 {
     let mode = e.mode;
@@ -15,7 +15,7 @@ pub fn core_of(e: Engine) -> Core
     let progress = e.progress;
     let start = e.start;
     let table = e.table;
-    Core {
+    EngineCore {
         start,
         table,
         a: e.a,
@@ -34,7 +34,7 @@ pub fn core_of(e: Engine) -> Core
 }
 
 // An engine from its core and its branch counts.
-pub fn engine_of(own: Core, counts: [u8; 96]) -> Engine
+pub fn engine_of(own: EngineCore, counts: [u8; 96]) -> Engine
     ensures { λ r. ⌜ r ≡ engineOf own counts ⌝ }
 {
     let status = own.status;

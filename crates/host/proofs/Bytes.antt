@@ -14,7 +14,7 @@ use Rattle.machine.specs.declared.Outcome.{Outcome}
 use Rattle.machine.specs.declared.Outcome.the-variants.{Success, EmptyBurst, UnlistedAddress}
 use Rattle.machine.specs.declared.Register.{Register}
 use Rattle.machine.specs.declared.Register.the-variants.{Control, Modes, OutputLevel, VariableD, Start, Page, Memory, Unlisted}
-use Rattle.machine.specs.declared.Written.{Written}
+use Rattle.machine.specs.declared.WriteResult.{WriteResult}
 use Rattle.machine.specs.Registers.{registerAt}
 use Rattle.machine.specs.Judged.{judged}
 use Rattle.machine.specs.Stored.{stored}
@@ -24,7 +24,7 @@ use Rattle.host.proofs.Addresses.{listed-low}
 abbrev pub placed : ℕ → ℕ → Placed
 placed a v = record { address = a; byte = v }
 
-abbrev pub written : Outcome → Chip → Written
+abbrev pub written : Outcome → Chip → WriteResult
 written o m = record { outcome = o; chip = m }
 
 -- what is left of a burst at byte i, which goes to address a; and nothing past its end
@@ -64,26 +64,26 @@ module _ (P : Profile) (b : Placed) (m : Chip) where
   unfolding bytesWritten
   done h = rw h
 
-  module _ {w : Written} (e : w ≡ bytesWritten P (b ∷ []) m) where
+  module _ {w : WriteResult} (e : w ≡ bytesWritten P (b ∷ []) m) where
     -- a byte is refused, or not, as it is by itself
     alike : succeeds (w .outcome) ≡ succeeds says
     alike =
-        by-test (succeeds says) (λ t. ap (λ (x : Written). succeeds (x .outcome)) (e ∙ done t) ∙ sym t)
-        (λ t. ap (λ (x : Written). succeeds (x .outcome)) (e ∙ off [] t))
+        by-test (succeeds says) (λ t. ap (λ (x : WriteResult). succeeds (x .outcome)) (e ∙ done t) ∙ sym t)
+        (λ t. ap (λ (x : WriteResult). succeeds (x .outcome)) (e ∙ off [] t))
 
     refused : (bs : List Placed) → succeeds (w .outcome) ≡ false → w ≡ bytesWritten P (b ∷ bs) m
     refused bs h = let t : succeeds says ≡ false = sym alike ∙ h in e ∙ off [] t ∙ sym (off bs t)
 
     goes-on : (bs : List Placed) → succeeds (w .outcome) ≡ true → bytesWritten P (b ∷ bs) m ≡ bytesWritten P bs (w .chip)
     goes-on bs h =
-        let t : succeeds says ≡ true = sym alike ∙ h in on bs t ∙ ap (λ (x : Written). bytesWritten P bs (x .chip)) (sym (e ∙ done t))
+        let t : succeeds says ≡ true = sym alike ∙ h in on bs t ∙ ap (λ (x : WriteResult). bytesWritten P bs (x .chip)) (sym (e ∙ done t))
 
 -- the bytes from byte i on
 module _ (P : Profile) (a i : ℕ) (xs : List ℕ) (m : Chip) where
-  pub refused-at : {w : Written} → i < length xs → w ≡ bytesWritten P (placed a (getD xs i 0) ∷ []) m → succeeds (w .outcome) ≡ false → w ≡ bytesWritten P (visited a (drop i xs)) m
+  pub refused-at : {w : WriteResult} → i < length xs → w ≡ bytesWritten P (placed a (getD xs i 0) ∷ []) m → succeeds (w .outcome) ≡ false → w ≡ bytesWritten P (visited a (drop i xs)) m
   refused-at l e h = rw (left-at a i xs l) (refused P (placed a (getD xs i 0)) m e (visited (a + 1) (drop (i + 1) xs)) h)
 
-  pub stored-at : {w : Written} → i < length xs → w ≡ bytesWritten P (placed a (getD xs i 0) ∷ []) m → succeeds (w .outcome) ≡ true → bytesWritten P (visited a (drop i xs)) m ≡ bytesWritten P (visited (a + 1) (drop (i + 1) xs)) (w .chip)
+  pub stored-at : {w : WriteResult} → i < length xs → w ≡ bytesWritten P (placed a (getD xs i 0) ∷ []) m → succeeds (w .outcome) ≡ true → bytesWritten P (visited a (drop i xs)) m ≡ bytesWritten P (visited (a + 1) (drop (i + 1) xs)) (w .chip)
   stored-at l e h = rw (left-at a i xs l) (goes-on P (placed a (getD xs i 0)) m e (visited (a + 1) (drop (i + 1) xs)) h)
 
   pub stored-end : length xs ≤ i → bytesWritten P (visited a (drop i xs)) m ≡ written Success m
@@ -101,7 +101,7 @@ is-unlisted (Memory k) h = absurd (false≢true h)
 is-unlisted Unlisted h = refl
 
 -- a byte that is not refused has a listed address, so the next address fits
-pub stored-low : (a v : ℕ) (m : Chip) {w : Written} → w ≡ bytesWritten LP5523 (placed a v ∷ []) m → succeeds (w .outcome) ≡ true → a ≤ 0x6F
+pub stored-low : (a v : ℕ) (m : Chip) {w : WriteResult} → w ≡ bytesWritten LP5523 (placed a v ∷ []) m → succeeds (w .outcome) ≡ true → a ≤ 0x6F
 stored-low a v m e h =
     by-test (isUnlisted (registerAt LP5523 a))
     (λ u.
@@ -125,7 +125,7 @@ module _ (P : Profile) (a : ℕ) (xs : List ℕ) (m : Chip) where
   pub burst-unlisted : (length xs ≡ 0 → ⊥) → someUnlisted P (visited a xs) ≡ true → written UnlistedAddress m ≡ burstOf P a xs m
   burst-unlisted h u = rw (burst-some P a xs m h, u)
 
-  module _ {w : Written} (h : length xs ≡ 0 → ⊥) (u : someUnlisted P (visited a xs) ≡ false) (e : w ≡ bytesWritten P (visited a xs) m) where
+  module _ {w : WriteResult} (h : length xs ≡ 0 → ⊥) (u : someUnlisted P (visited a xs) ≡ false) (e : w ≡ bytesWritten P (visited a xs) m) where
     pub burst-refused : succeeds (w .outcome) ≡ false → written (w .outcome) m ≡ burstOf P a xs m
     burst-refused t = rw (burst-some P a xs m h, u, ← e, t)
 

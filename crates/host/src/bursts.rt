@@ -4,7 +4,7 @@ use crate::success::is_success;
 use crate::write::write;
 use machine::Chip;
 use machine::Outcome;
-use machine::Written;
+use machine::WriteResult;
 ghost use mathlib.Core.Bool.{not};
 ghost use mathlib.Core.Path.{_≡_};
 ghost use Rattle.word.specs.Profile.{LP5523};
@@ -27,7 +27,7 @@ fn all_listed(first: u16, bytes: &[u8]) -> bool
 }
 
 // The bytes in order, up to the first refusal.
-fn write_bytes(chip: Chip, first: u16, bytes: &[u8]) -> Written
+fn write_bytes(chip: Chip, first: u16, bytes: &[u8]) -> WriteResult
     ensures { λ r. ⌜ r ≡ bytesWritten LP5523 (visited first (now (bytes .entry))) chip ⌝ }
 {
     let mut changed = chip;
@@ -44,23 +44,23 @@ fn write_bytes(chip: Chip, first: u16, bytes: &[u8]) -> Written
         address += 1;
         i += 1;
     }
-    Written {
+    WriteResult {
         outcome: Outcome::Success,
         chip: changed,
     }
 }
 
-pub fn burst(chip: Chip, first: u16, bytes: &[u8]) -> Written
+pub fn burst(chip: Chip, first: u16, bytes: &[u8]) -> WriteResult
     ensures { λ r. ⌜ r ≡ burstOf LP5523 first (now (bytes .entry)) chip ⌝ }
 {
     if bytes.len() == 0 {
-        return Written {
+        return WriteResult {
             outcome: Outcome::EmptyBurst,
             chip,
         };
     }
     if !all_listed(first, bytes) {
-        return Written {
+        return WriteResult {
             outcome: Outcome::UnlistedAddress,
             chip,
         };
@@ -68,7 +68,7 @@ pub fn burst(chip: Chip, first: u16, bytes: &[u8]) -> Written
     let written = write_bytes(chip, first, bytes);
     let outcome = written.outcome;
     if !is_success(outcome) {
-        return Written { outcome, chip };
+        return WriteResult { outcome, chip };
     }
     written
 }

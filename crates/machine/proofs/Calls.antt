@@ -13,11 +13,11 @@ use Rattle.machine.specs.declared.Mode.{Mode}
 use Rattle.machine.specs.declared.Exec.{Exec}
 use Rattle.machine.specs.declared.Engine.{Engine}
 use Rattle.machine.specs.declared.Chip.{Chip}
-use Rattle.machine.specs.declared.Act.{Act}
-use Rattle.machine.specs.declared.Ran.{Ran}
+use Rattle.machine.specs.declared.BeatResult.{BeatResult}
+use Rattle.machine.specs.declared.RunResult.{RunResult}
 use Rattle.machine.specs.declared.Outcome.{Outcome}
 use Rattle.machine.specs.declared.Outcome.the-variants.{Success, OutsideRegister}
-use Rattle.machine.specs.declared.Written.{Written}
+use Rattle.machine.specs.declared.WriteResult.{WriteResult}
 use Rattle.machine.specs.declared.Register.{Register}
 use Rattle.machine.specs.declared.Register.the-variants.{Control, Modes, OutputLevel, VariableD, Start, Page, Memory, Unlisted}
 use Rattle.machine.specs.Parts.{bit, each, zeroEngine, engineAt, withExec, withStart, withPending, withInterrupt}
@@ -55,22 +55,22 @@ module _ (P : Profile) (G : Chip → Type 0) (S : Steps P G) where
       go true = g
       go false = turns-keep (enginesOf P) 0 (withPulse b m) (S .pulse b m g)
 
-  beats-keep : (n : ℕ) (r : Ran) → G (r .chip) → G (beatsMore P n r .chip)
+  beats-keep : (n : ℕ) (r : RunResult) → G (r .chip) → G (beatsMore P n r .chip)
   unfolding beatsMore
   beats-keep zero r g = g
   beats-keep (suc n) r g =
-      by-cond (λ (u : Ran). G (u .chip)) (quiet (r .chip)) (λ h. g) (λ h. beats-keep n (oneMore P r) (tick-keeps false (r .chip) g))
+      by-cond (λ (u : RunResult). G (u .chip)) (quiet (r .chip)) (λ h. g) (λ h. beats-keep n (oneMore P r) (tick-keeps false (r .chip) g))
 
   pub run-keeps : (n : ℕ) (m : Chip) → G m → G (runOf P n m .chip)
   unfolding runOf
-  run-keeps n m g = by-cond (λ (u : Ran). G (u .chip)) (ltb mostBeats n) (λ h. g) (λ h. beats-keep n (beginning P Success m) g)
+  run-keeps n m g = by-cond (λ (u : RunResult). G (u .chip)) (ltb mostBeats n) (λ h. g) (λ h. beats-keep n (beginning P Success m) g)
 
   bytes-keep : (bs : List Placed) (m : Chip) → G m → G (bytesWritten P bs m .chip)
   unfolding bytesWritten
   bytes-keep [] m g = g
   bytes-keep (b ∷ bs) m g =
       let r = registerAt P (b .address) in
-      by-cond (λ (u : Written). G (u .chip)) (succeeds (judged P r (b .byte) m))
+      by-cond (λ (u : WriteResult). G (u .chip)) (succeeds (judged P r (b .byte) m))
       (λ h. bytes-keep bs (stored P r (b .byte) m) (S .byte r (b .byte) m h g))
       (λ h. g)
 
@@ -79,8 +79,8 @@ module _ (P : Profile) (G : Chip → Type 0) (S : Steps P G) where
   burst-keeps a [] m g = g
   burst-keeps a (v ∷ vs) m g =
       let bs = visited a (v ∷ vs) in
-      by-cond (λ (u : Written). G (u .chip)) (someUnlisted P bs) (λ h. g)
-      (λ h. by-cond (λ (u : Written). G (u .chip)) (succeeds (bytesWritten P bs m .outcome)) (λ k. bytes-keep bs m g) (λ k. g))
+      by-cond (λ (u : WriteResult). G (u .chip)) (someUnlisted P bs) (λ h. g)
+      (λ h. by-cond (λ (u : WriteResult). G (u .chip)) (succeeds (bytesWritten P bs m .outcome)) (λ k. bytes-keep bs m g) (λ k. g))
 
   pub calls-keep : (m : Chip) → G m → (k : Call) → G (after P k m)
   unfolding after
@@ -125,7 +125,7 @@ module _ (P : Profile) (F : Engine → Type 0) (S : EngineSteps P F) where
   unfolding turn
   turn-keeps i m g = go (acts (engineAt P m i))
     where
-      act : Act
+      act : BeatResult
       act = beatOf P (m .c) (m .d) (m .memory) (engineAt P m i) (engineAt P m i .progress)
 
       go : (b : Bool) → EveryEngine P F (turnIf P i m b .chip)

@@ -11,7 +11,7 @@ use Rattle.laws.proofs.Tests.{by-test}
 use Rattle.word.specs.Profile.{Profile, LP5523, wordsOf}
 use Rattle.word.specs.declared.Step.{Step}
 use Rattle.machine.specs.declared.Exec.{Exec}
-use Rattle.machine.specs.declared.Exec.the-variants.{Hold, Step as StepOnce, Free, Once}
+use Rattle.machine.specs.declared.Exec.the-variants.{Hold, SingleStep, Free, Once}
 use Rattle.machine.specs.Parts.{each}
 use Rattle.machine.specs.WordEnd.{pcAfter}
 
@@ -42,7 +42,7 @@ words-most LP5523 = omega arith
 -- PC at a word's end is the old one or the new one
 pub by-exec : (F : Step → Type 0) (x : Exec) {old new : Step} → F old → F new → F (pcAfter x old new)
 by-exec F Hold o n = n
-by-exec F StepOnce o n = n
+by-exec F SingleStep o n = n
 by-exec F Free o n = n
 by-exec F Once o n = o
 

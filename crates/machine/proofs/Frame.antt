@@ -12,7 +12,7 @@ use Rattle.machine.specs.declared.Engine.{Engine}
 use Rattle.machine.specs.declared.Output.{Output}
 use Rattle.machine.specs.declared.Chip.{Chip}
 use Rattle.machine.specs.declared.Effect.{Effect}
-use Rattle.machine.specs.declared.Act.{Act}
+use Rattle.machine.specs.declared.BeatResult.{BeatResult}
 use Rattle.machine.specs.Parts.{bit, zeroEngine, engineAt, withPending}
 use Rattle.machine.specs.Outputs.{holder, outputAfter}
 use Rattle.machine.specs.Triggers.{receives}
@@ -29,7 +29,7 @@ not-held : (P : Profile) (es : List Engine) (i : ℕ) (t : Effect) (k : ℕ) (o 
 unfolding outputAfter
 not-held P es i t k o h = rw (ne-eqb (holder P es k) (i + 1) h)
 
-applied-frame : (P : Profile) (i : ℕ) (m : Chip) (t : Act) → Framed P i m (applied P i m t .chip)
+applied-frame : (P : Profile) (i : ℕ) (m : Chip) (t : BeatResult) → Framed P i m (applied P i m t .chip)
 applied-frame P i m t =
     record {
       engines = λ j h.

@@ -34,7 +34,7 @@ use Rattle.machine.proofs.Common.{by-exec, or-left, or-right}
 use Rattle.machine.proofs.Closed.{hasTable, topOf, bottomOf}
 
 -- What the invariant reads of an engine. Its run setting, variables, mask, flags and pending triggers are not here: calls may change them.
-pub record Core : Type 0 where
+pub record EngineCore : Type 0 where
   pub mode : Mode
   pub start : Address
   pub pc : Step
@@ -42,11 +42,11 @@ pub record Core : Type 0 where
   pub table : Pointers
   pub loops : List ℕ
 
-abbrev pub core : Engine → Core
+abbrev pub core : Engine → EngineCore
 core e = record { mode = e .mode; start = e .start; pc = e .pc; progress = e .progress; table = e .table; loops = e .loops }
 
 -- A core whose word ends.
-abbrev pub ended : Exec → Step → Pointers → List ℕ → Core → Core
+abbrev pub ended : Exec → Step → Pointers → List ℕ → EngineCore → EngineCore
 ended x pc t ks k = record { mode = k .mode; start = k .start; pc = pcAfter x (k .pc) pc; progress = BetweenWords; table = t; loops = ks }
 
 -- Words that may last more than a beat.
@@ -121,14 +121,14 @@ pub record Points (q : EnginePlan) (x : Pointers) : Type 0 where
   pub upto : x .index .0 ≤ bottomOf q
 
 -- With f whether the first word was ever ended, g the second.
-pub record TableKept (q : EnginePlan) (f g : Bool) (k : Core) : Type 0 where
+pub record TableKept (q : EnginePlan) (f g : Bool) (k : EngineCore) : Type 0 where
   pub one : 0 < k .pc .0 → f ≡ true
   pub two : 1 < k .pc .0 → g ≡ true
   pub points : f ≡ true → Points q (k .table)
   pub bottom : g ≡ true → k .table .bottom .0 ≡ bottomOf q
 
 -- The words that an engine of plan q with the addresses R may fetch from, and its invariant.
-pub record Kept (P : Profile) (q : EnginePlan) (image : List ℕ) (R : ℕ → Type 0) (f g : Bool) (k : Core) : Type 0 where
+pub record Kept (P : Profile) (q : EnginePlan) (image : List ℕ) (R : ℕ → Type 0) (f g : Bool) (k : EngineCore) : Type 0 where
   pub start : k .start .0 ≡ firstOf q
   pub inside : R (firstOf q + k .pc .0)
   pub mode : k .mode ≡ Run
@@ -151,7 +151,7 @@ module _ (P : Profile) (q : EnginePlan) (image : List ℕ) (R : ℕ → Type 0) 
   abbrev pub secondThen : ℕ → Bool
   secondThen a = eqb a (firstOf q + 1) || g
 
-  table-ends : (k : Core) (x : Exec) (n : Step) (y : Pointers) (ks : List ℕ) → k .start .0 ≡ firstOf q →
+  table-ends : (k : EngineCore) (x : Exec) (n : Step) (y : Pointers) (ks : List ℕ) → k .start .0 ≡ firstOf q →
       TableKept q f g k → TableEnds q (k .pc .0) (n .0) (k .table) y →
       TableKept q (firstThen (k .start .0 + k .pc .0)) (secondThen (k .start .0 + k .pc .0)) (ended x n y ks k)
   table-ends k x n y ks s old new =
@@ -182,7 +182,7 @@ module _ (P : Profile) (q : EnginePlan) (image : List ℕ) (R : ℕ → Type 0) 
       still z h = let n : eqb a (firstOf q + 1) ≡ false = ne-eqb a (firstOf q + 1) (λ w. omega (arith, s)) in rw n at h
 
   -- A word's end keeps the invariant, if the new PC, counts and pointers do.
-  pub ends-kept : (k : Core) (x : Exec) (n : Step) (y : Pointers) (ks : List ℕ) → Kept P q image R f g k → R (firstOf q + n .0) →
+  pub ends-kept : (k : EngineCore) (x : Exec) (n : Step) (y : Pointers) (ks : List ℕ) → Kept P q image R f g k → R (firstOf q + n .0) →
       ((a : ℕ) → endless (flowOf (wordAt P image a)) ≡ true → getD ks a 0 ≡ 0) →
       (hasTable q ≡ true → TableEnds q (k .pc .0) (n .0) (k .table) y) →
       Kept P q image R (firstThen (k .start .0 + k .pc .0)) (secondThen (k .start .0 + k .pc .0)) (ended x n y ks k)

@@ -32,7 +32,7 @@ use Rattle.machine.specs.Burst.{succeeds}
 use Rattle.machine.specs.Theorems.{EngineWithin, NewChipWithin, StaysWithin, PcWithin, AllPcWithin, NewChipPc, PcStays}
 use Rattle.machine.proofs.Common.{or-false-right, all-alike}
 use Rattle.machine.proofs.Calls.{Steps, calls-keep, inside, EngineSteps, EveryEngine, every-engine}
-use Rattle.machine.proofs.Moves.{Core, core, UseWithin, Moves, waits-moves, ramps-moves, triggers-moves, begins-moves}
+use Rattle.machine.proofs.Moves.{EngineCore, core, UseWithin, Moves, waits-moves, ramps-moves, triggers-moves, begins-moves}
 
 -- the pointers of a table
 record TableWithin (P : Profile) (t : Pointers) : Type 0 where
@@ -84,7 +84,7 @@ module _ (P : Profile) where
   enters-moves Halt e = drops e
 
   -- from an engine of the same start and pointers, given what is known of it
-  given : (A : Type 0) (e f : Engine) (k : Core) → (PcWithin P e → A) → f .start ≡ e .start → f .table ≡ e .table → Moves P A f k → Moves P (PcWithin P e) e k
+  given : (A : Type 0) (e f : Engine) (k : EngineCore) → (PcWithin P e → A) → f .start ≡ e .start → f .table ≡ e .table → Moves P A f k → Moves P (PcWithin P e) e k
   given A e f k a s t b =
       record {
         move = b .move;
@@ -108,7 +108,7 @@ module _ (P : Profile) where
       (λ h. fetch-moves m e (withPc (stepAt 0) e) (words-positive P) refl refl)
 
   -- a word in progress was fetched in the memory
-  goes-on : (e : Engine) (k : Core) → midWord (e .progress) ≡ true → Moves P (e .pc .0 < wordsOf P) e k → Moves P (PcWithin P e) e k
+  goes-on : (e : Engine) (k : EngineCore) → midWord (e .progress) ≡ true → Moves P (e .pc .0 < wordsOf P) e k → Moves P (PcWithin P e) e k
   goes-on e k h = given (e .pc .0 < wordsOf P) e e k (λ w. w .inProgress h) refl refl
 
   acted-moves : (m : Chip) (e : Engine) (p : Progress) → midWord (e .progress) ≡ midWord p → Moves P (PcWithin P e) e (core (beatOf P (m .c) (m .d) (m .memory) e p .own))

@@ -28,8 +28,8 @@ use Rattle.machine.specs.declared.Progress.{Progress}
 use Rattle.machine.specs.declared.Progress.the-variants.{BetweenWords, Waiting, Ramping, Triggering}
 use Rattle.machine.specs.declared.Pointers.{Pointers}
 use Rattle.machine.specs.declared.Engine.{Engine}
-use Rattle.machine.specs.declared.Act.{Act}
-use Rattle.machine.specs.WordEnd.{advance, pcAfter, finish}
+use Rattle.machine.specs.declared.BeatResult.{BeatResult}
+use Rattle.machine.specs.WordEnd.{stepPc, pcAfter, finish}
 use Rattle.machine.specs.Durations.{beatsOf, clampTime, waits, ramps}
 use Rattle.machine.specs.Variables.{variable, jumps, jumpTo, assigns}
 use Rattle.machine.specs.Branches.{branches}
@@ -40,13 +40,13 @@ use Rattle.machine.specs.Turn.{midWord}
 use Rattle.machine.proofs.Common.{by-exec, words-most}
 
 -- what the limits see of an engine
-pub record Core : Type 0 where
+pub record EngineCore : Type 0 where
   pub start : Address
   pub pc : Step
   pub progress : Progress
   pub table : Pointers
 
-abbrev pub core : Engine → Core
+abbrev pub core : Engine → EngineCore
 core e = record { start = e .start; pc = e .pc; progress = e .progress; table = e .table }
 
 -- the address that a mux word gives, if any, is one of the memory's
@@ -72,7 +72,7 @@ use-move P MuxMapPrev = tt
 use-move P MuxLdPrev = tt
 
 -- e may become an engine of core k: the start stays, the pointers move by one use of the table, and PC, given A, stays within its limits
-pub record Moves (P : Profile) (A : Type 0) (e : Engine) (k : Core) : Type 0 where
+pub record Moves (P : Profile) (A : Type 0) (e : Engine) (k : EngineCore) : Type 0 where
   pub move : TableUse
   pub within : UseWithin P move
   pub start : k .start ≡ e .start
@@ -105,10 +105,10 @@ module _ (P : Profile) (e : Engine) where
 
   -- and goes on to the next word
   used : (u : TableUse) → UseWithin P u →
-      Moves P InMemory e (record { start = e .start; pc = pcAfter (e .exec) (e .pc) (advance (e .pc) 1); progress = BetweenWords; table = pointed P u (e .table) })
-  used u i = ended u (advance (e .pc) 1) i (λ h. let n = words-most P in omega arith)
+      Moves P InMemory e (record { start = e .start; pc = pcAfter (e .exec) (e .pc) (stepPc (e .pc) 1); progress = BetweenWords; table = pointed P u (e .table) })
+  used u i = ended u (stepPc (e .pc) 1) i (λ h. let n = words-most P in omega arith)
 
-  next : Moves P InMemory e (record { start = e .start; pc = pcAfter (e .exec) (e .pc) (advance (e .pc) 1); progress = BetweenWords; table = e .table })
+  next : Moves P InMemory e (record { start = e .start; pc = pcAfter (e .exec) (e .pc) (stepPc (e .pc) 1); progress = BetweenWords; table = e .table })
   next = used Nothing tt
 
   -- the word lasts, or is undefined
@@ -123,7 +123,7 @@ module _ (P : Profile) (e : Engine) where
         inProgress = λ h z. h;
       }
 
-  abbrev Acts : Act → Type 0
+  abbrev Acts : BeatResult → Type 0
   Acts t = Moves P InMemory e (core (t .own))
 
   pub waits-moves : (c n : ℕ) → Moves P InMemory e (core (waits c e n .own))

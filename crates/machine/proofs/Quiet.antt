@@ -12,7 +12,7 @@ use Rattle.machine.specs.declared.Engine.{Engine}
 use Rattle.machine.specs.declared.Chip.{Chip}
 use Rattle.machine.specs.declared.Register.{Register}
 use Rattle.machine.specs.declared.Register.the-variants.{Control, VariableD}
-use Rattle.machine.specs.declared.Written.{Written}
+use Rattle.machine.specs.declared.WriteResult.{WriteResult}
 use Rattle.machine.specs.Parts.{bit, zeroEngine, engineAt, withExec, withInterrupt}
 use Rattle.machine.specs.Triggers.{receives, pulsed}
 use Rattle.machine.specs.Tick.{withPulse}
@@ -72,7 +72,7 @@ alike-bytes : (P : Profile) (bs : List Placed) (m : Chip) → onlySettings bs �
 unfolding bytesWritten
 alike-bytes P [] m h = alike-refl P m
 alike-bytes P (b ∷ bs) m h =
-    by-cond (λ (u : Written). Alike P m (u .chip)) (succeeds (judged P (registerAt P (b .address)) (b .byte) m))
+    by-cond (λ (u : WriteResult). Alike P m (u .chip)) (succeeds (judged P (registerAt P (b .address)) (b .byte) m))
     (λ z. alike-trans P (alike-stored P b m (and-left (eqb (b .address) 0x00 || eqb (b .address) 0x3C) (onlySettings bs) h))
     (alike-bytes P bs (stored P (registerAt P (b .address)) (b .byte) m) (and-right (eqb (b .address) 0x00 || eqb (b .address) 0x3C) (onlySettings bs) h)))
     (λ z. alike-refl P m)
@@ -81,8 +81,8 @@ alike-settings : (P : Profile) (a : ℕ) (vs : List ℕ) (m : Chip) → onlySett
 unfolding burstOf
 alike-settings P a [] m h = alike-refl P m
 alike-settings P a (v ∷ vs) m h =
-    by-cond (λ (u : Written). Alike P m (u .chip)) (someUnlisted P (visited a (v ∷ vs))) (λ z. alike-refl P m)
-    (λ z. by-cond (λ (u : Written). Alike P m (u .chip)) (succeeds (bytesWritten P (visited a (v ∷ vs)) m .outcome)) (λ y. alike-bytes P (visited a (v ∷ vs)) m h) (λ y. alike-refl P m))
+    by-cond (λ (u : WriteResult). Alike P m (u .chip)) (someUnlisted P (visited a (v ∷ vs))) (λ z. alike-refl P m)
+    (λ z. by-cond (λ (u : WriteResult). Alike P m (u .chip)) (succeeds (bytesWritten P (visited a (v ∷ vs)) m .outcome)) (λ y. alike-bytes P (visited a (v ∷ vs)) m h) (λ y. alike-refl P m))
 
 pub alike-burst : (P : Profile) (a : ℕ) (vs : List ℕ) (m : Chip) → allowed P (burst a vs) m ≡ true → Alike P m (burstOf P a vs m .chip)
 alike-burst P a vs m h =

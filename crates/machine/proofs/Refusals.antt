@@ -5,7 +5,7 @@ use mathlib.Core.Path.{_≡_, refl, sym, _∙_, ap}
 use borrow.Author.Tests.{lt-ltb}
 use Rattle.laws.proofs.Tests.{by-cond}
 use Rattle.machine.specs.declared.Chip.{Chip}
-use Rattle.machine.specs.declared.Written.{Written}
+use Rattle.machine.specs.declared.WriteResult.{WriteResult}
 use Rattle.machine.specs.declared.Outcome.the-variants.{Success, TooManyBeats}
 use Rattle.machine.specs.Tick.{tickIf, tick}
 use Rattle.machine.specs.Run.{mostBeats, beginning, beatsMore, runOf}
@@ -13,9 +13,9 @@ use Rattle.machine.specs.Burst.{visited, someUnlisted, succeeds, bytesWr
 use Rattle.machine.specs.Theorems.{RefusedBurst, RefusedRun, StoppedBeat}
 
 -- bytes up to a refusal are undone
-refused-undone : (m : Chip) (w : Written) → succeeds (undone m w .outcome) ≡ false → undone m w .chip ≡ m
+refused-undone : (m : Chip) (w : WriteResult) → succeeds (undone m w .outcome) ≡ false → undone m w .chip ≡ m
 refused-undone m w =
-    by-cond (λ (u : Written). succeeds (u .outcome) ≡ false → u .chip ≡ m) (succeeds (w .outcome))
+    by-cond (λ (u : WriteResult). succeeds (u .outcome) ≡ false → u .chip ≡ m) (succeeds (w .outcome))
     (λ h e. absurd (false≢true (sym e ∙ h)))
     (λ h e. refl)
 
@@ -23,7 +23,7 @@ pub refused-burst : RefusedBurst
 unfolding burstOf
 refused-burst P a [] m = λ e. refl
 refused-burst P a (v ∷ vs) m =
-    by-cond (λ (u : Written). succeeds (u .outcome) ≡ false → u .chip ≡ m) (someUnlisted P (visited a (v ∷ vs)))
+    by-cond (λ (u : WriteResult). succeeds (u .outcome) ≡ false → u .chip ≡ m) (someUnlisted P (visited a (v ∷ vs)))
     (λ h e. refl)
     (λ h. refused-undone m (bytesWritten P (visited a (v ∷ vs)) m))
 

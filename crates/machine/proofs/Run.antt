@@ -9,7 +9,7 @@ use borrow.Author.Tests.{le-ltb}
 use Rattle.laws.proofs.Tests.{by-cond}
 use Rattle.word.specs.Profile.{Profile, enginesOf}
 use Rattle.machine.specs.declared.Chip.{Chip}
-use Rattle.machine.specs.declared.Ran.{Ran}
+use Rattle.machine.specs.declared.RunResult.{RunResult}
 use Rattle.machine.specs.declared.Outcome.the-variants.{Success, TooManyBeats}
 use Rattle.machine.specs.Tick.{tick}
 use Rattle.machine.specs.Run.{quiet, tally, oneMore, beatsMore, beginning, mostBeats, runOf}
@@ -39,7 +39,7 @@ tally-most (b ∷ bs) (n ∷ ns) zero = by-cond (λ (k : ℕ). k ≤ n + 1) b (�
 tally-most (b ∷ bs) (n ∷ ns) (suc i) = tally-most bs ns i
 
 -- what s, the answer of at most n beats more from r on, has to do with single beats
-record Went (P : Profile) (n : ℕ) (r s : Ran) : Type 0 where
+record Went (P : Profile) (n : ℕ) (r s : RunResult) : Type 0 where
   done : ℕ
   upto : done ≤ n
   busy : (k : ℕ) → k < done → quiet (ticks P k (r .chip)) ≡ false
@@ -50,7 +50,7 @@ record Went (P : Profile) (n : ℕ) (r s : Ran) : Type 0 where
   words : (i : ℕ) → i < length (r .words) → getD (s .words) i 0 ≡ getD (r .words) i 0 + finishedIn P i done (r .chip)
   fewer : (i : ℕ) → getD (s .words) i 0 ≤ getD (r .words) i 0 + done
 
-none-done : (P : Profile) (n : ℕ) (r : Ran) → (0 < n → quiet (r .chip) ≡ true) → Went P n r r
+none-done : (P : Profile) (n : ℕ) (r : RunResult) → (0 < n → quiet (r .chip) ≡ true) → Went P n r r
 none-done P n r h =
     record {
       done = 0;
@@ -64,7 +64,7 @@ none-done P n r h =
       fewer = λ i. omega arith;
     }
 
-one-done : (P : Profile) (n : ℕ) (r s : Ran) → quiet (r .chip) ≡ false → Went P n (oneMore P r) s → Went P (suc n) r s
+one-done : (P : Profile) (n : ℕ) (r s : RunResult) → quiet (r .chip) ≡ false → Went P n (oneMore P r) s → Went P (suc n) r s
 one-done P n r s q w =
     record {
       done = suc (w .done);
@@ -88,11 +88,11 @@ one-done P n r s q w =
     busy zero l = q
     busy (suc k) l = w .busy k (omega arith)
 
-went : (P : Profile) (n : ℕ) (r : Ran) → Went P n r (beatsMore P n r)
+went : (P : Profile) (n : ℕ) (r : RunResult) → Went P n r (beatsMore P n r)
 unfolding beatsMore
 went P zero r = none-done P zero r (λ l. absurd (omega arith))
 went P (suc n) r =
-    by-cond (λ (s : Ran). Went P (suc n) r s) (quiet (r .chip))
+    by-cond (λ (s : RunResult). Went P (suc n) r s) (quiet (r .chip))
     (λ q. none-done P (suc n) r (λ l. q))
     (λ q. one-done P n r (beatsMore P n (oneMore P r)) q (went P n (oneMore P r)))
 
@@ -103,7 +103,7 @@ run-goes P n m h = ap (λ (b : Bool). cond b (beginning P TooManyBeats m) (beats
 
 pub run-is-beats : RunIsBeats
 run-is-beats P n m h =
-    let w : Went P n (beginning P Success m) (runOf P n m) = subst (λ (s : Ran). Went P n (beginning P Success m) s) (sym (run-goes P n m h)) (went P n (beginning P Success m)) in
+    let w : Went P n (beginning P Success m) (runOf P n m) = subst (λ (s : RunResult). Went P n (beginning P Success m) s) (sym (run-goes P n m h)) (went P n (beginning P Success m)) in
     let e : w .done ≡ runOf P n m .beats = omega (arith, w .beats) in
     record {
       outcome = w .outcome;

@@ -21,9 +21,9 @@ use Rattle.machine.specs.declared.Mode.the-variants.{Disabled, Run}
 use Rattle.machine.specs.declared.Progress.{Progress}
 use Rattle.machine.specs.declared.Engine.{Engine}
 use Rattle.machine.specs.declared.Chip.{Chip}
-use Rattle.machine.specs.declared.Act.{Act}
-use Rattle.machine.specs.declared.Turned.{Turned}
-use Rattle.machine.specs.declared.Ran.{Ran}
+use Rattle.machine.specs.declared.BeatResult.{BeatResult}
+use Rattle.machine.specs.declared.TurnResult.{TurnResult}
+use Rattle.machine.specs.declared.RunResult.{RunResult}
 use Rattle.machine.specs.Parts.{zeroEngine, engineAt}
 use Rattle.machine.specs.Triggers.{receives}
 use Rattle.machine.specs.Turn.{isRun, midWord, acts, addressOf, returned, beatOf, applied, turn, turnIf}
@@ -38,7 +38,7 @@ use Rattle.machine.specs.Safe.{wordAddress, endedAt, everEnded, PointsIn
 use Rattle.machine.specs.Theorems.{Demand3}
 use Rattle.machine.proofs.Common.{both, each-leaves}
 use Rattle.machine.proofs.Closed.{isUsed, hasTable, Closed, accepted-closed}
-use Rattle.machine.proofs.Kept.{Core, core, Under, TableKept, Kept}
+use Rattle.machine.proofs.Kept.{EngineCore, core, Under, TableKept, Kept}
 use Rattle.machine.proofs.WordsKept.{good, no-return, same-address, fetched-word, beat-fine}
 use Rattle.machine.proofs.Quiet.{Alike, receives-core, alike-pulse, alike-read, alike-burst}
 
@@ -58,12 +58,12 @@ run-within P m i h =
     (λ l. absurd (true≢false (sym (ap isRun h) ∙ ap (λ (e : Engine). isRun (e .mode)) (List·getD-eq-default (m .engines) (zeroEngine P) (ltb-false i (length (m .engines)) l)))))
 
 -- After an act of engine i another engine's core is as it was, and its own is the act's.
-others-core : (P : Profile) (i j : ℕ) (m : Chip) (t : Act) → (j ≡ i → ⊥) → core (engineAt P (applied P i m t .chip) j) ≡ core (engineAt P m j)
+others-core : (P : Profile) (i j : ℕ) (m : Chip) (t : BeatResult) → (j ≡ i → ⊥) → core (engineAt P (applied P i m t .chip) j) ≡ core (engineAt P m j)
 others-core P i j m t h =
     each-leaves core (receives i (t .send)) (receives-core i (t .send)) 0 j (set (m .engines) i (t .own)) (zeroEngine P)
     ∙ ap core (getD-set-other (m .engines) i j (t .own) (zeroEngine P) h)
 
-own-core : (P : Profile) (i : ℕ) (m : Chip) (t : Act) → i < length (m .engines) → core (engineAt P (applied P i m t .chip) i) ≡ core (t .own)
+own-core : (P : Profile) (i : ℕ) (m : Chip) (t : BeatResult) → i < length (m .engines) → core (engineAt P (applied P i m t .chip) i) ≡ core (t .own)
 own-core P i m t h =
     each-leaves core (receives i (t .send)) (receives-core i (t .send)) 0 i (set (m .engines) i (t .own)) (zeroEngine P)
     ∙ ap core (getD-set-same (m .engines) i (t .own) (zeroEngine P) h)
@@ -81,7 +81,7 @@ pub record Invariant (P : Profile) (p : Plan) (image : List ℕ) (R : ℕ → �
   pub safe : Safe P p (s .seen)
 
 -- An engine that points as the invariant says points inside its table.
-points-inside : (q : EnginePlan) (f g : Bool) (k : Core) → (hasTable q ≡ true → TableKept q f g k) → f ≡ true → g ≡ true → PointsInside q (k .table)
+points-inside : (q : EnginePlan) (f g : Bool) (k : EngineCore) → (hasTable q ≡ true → TableKept q f g k) → f ≡ true → g ≡ true → PointsInside q (k .table)
 points-inside Unused f g k T a b = tt
 points-inside (Code x l) f g k T a b = tt
 points-inside (CodeAndTable x l t z) f g k T a b =
@@ -106,8 +106,8 @@ module _ (P : Profile) (p : Plan) (image : List ℕ) (R : ℕ → ℕ → Type 0
   alike-kept s m h I =
       record {
         memory = λ a l. ap (λ (ws : List ℕ). getD ws a 0) (h .memory) ∙ I .memory a l;
-        used = λ i u. subst (λ (k : Core). Kept P (planOf i) image (R i) (everEnded P i (firstOf (planOf i)) (s .seen)) (everEnded P i (firstOf (planOf i) + 1) (s .seen)) k) (sym (h .cores i)) (I .used i u);
-        unused = λ i u. ap (λ (k : Core). k .mode) (h .cores i) ∙ I .unused i u;
+        used = λ i u. subst (λ (k : EngineCore). Kept P (planOf i) image (R i) (everEnded P i (firstOf (planOf i)) (s .seen)) (everEnded P i (firstOf (planOf i) + 1) (s .seen)) k) (sym (h .cores i)) (I .used i u);
+        unused = λ i u. ap (λ (k : EngineCore). k .mode) (h .cores i) ∙ I .unused i u;
         safe = I .safe;
       }
 
@@ -147,7 +147,7 @@ module _ (P : Profile) (p : Plan) (image : List ℕ) (R : ℕ → ℕ → Type 0
       endedAt P i a (record { engine = i; chip = m }) ≡ (beatOf P (m .c) (m .d) (m .memory) (engineAt P m i) (engineAt P m i .progress) .ended && eqb (addressOf (engineAt P m i .start) (engineAt P m i .pc)) a)
   ended-own i a m h k = rw (eq-eqb i i refl, turn-acts P i m h, same-word (engineAt P m i) k)
 
-  kept-at : (j : ℕ) {f f′ g g′ : Bool} {k k′ : Core} → f ≡ f′ → g ≡ g′ → k ≡ k′ → Kept P (planOf j) image (R j) f′ g′ k′ → Kept P (planOf j) image (R j) f g k
+  kept-at : (j : ℕ) {f f′ g g′ : Bool} {k k′ : EngineCore} → f ≡ f′ → g ≡ g′ → k ≡ k′ → Kept P (planOf j) image (R j) f′ g′ k′ → Kept P (planOf j) image (R j) f g k
   kept-at j a b c K = rw (a, b, c) K
 
   or-drop : (a b : Bool) → a ≡ false → (a || b) ≡ b
@@ -168,7 +168,7 @@ module _ (P : Profile) (p : Plan) (image : List ℕ) (R : ℕ → ℕ → Type 0
       t : Seen
       t = record { engine = i; chip = m }
 
-      act : Act
+      act : BeatResult
       act = beatOf P (m .c) (m .d) (m .memory) (engineAt P m i) (engineAt P m i .progress)
 
       flag : ℕ → ℕ → Bool
@@ -184,7 +184,7 @@ module _ (P : Profile) (p : Plan) (image : List ℕ) (R : ℕ → ℕ → Type 0
           (I .used j u)
 
       other-core : (j : ℕ) → acts (engineAt P m i) ≡ true → (i ≡ j → ⊥) → core (engineAt P (turn P i m .chip) j) ≡ core (engineAt P m j)
-      other-core j h n = ap (λ (r : Turned). core (engineAt P (r .chip) j)) (turn-acts P i m h) ∙ others-core P i j m act (λ e. n (sym e))
+      other-core j h n = ap (λ (r : TurnResult). core (engineAt P (r .chip) j)) (turn-acts P i m h) ∙ others-core P i j m act (λ e. n (sym e))
 
       own : acts (engineAt P m i) ≡ true → isUsed (planOf i) ≡ true → KeptAfter (t ∷ s .seen) (turn P i m .chip) i
       own h u =
@@ -193,7 +193,7 @@ module _ (P : Profile) (p : Plan) (image : List ℕ) (R : ℕ → ℕ → Type 0
           kept-at i
           (ap (λ (b : Bool). b || flag i (firstOf q)) (ended-own i (firstOf q) m h k))
           (ap (λ (b : Bool). b || flag i (firstOf q + 1)) (ended-own i (firstOf q + 1) m h k))
-          (ap (λ (r : Turned). core (engineAt P (r .chip) i)) (turn-acts P i m h) ∙ own-core P i m act (run-within P m i (I .used i u .mode)))
+          (ap (λ (r : TurnResult). core (engineAt P (r .chip) i)) (turn-acts P i m h) ∙ own-core P i m act (run-within P m i (I .used i u .mode)))
           (beat-fine P q image (R i) _ _ (A .closed i u) (engineAt P m i) (I .used i u) m (I .memory) (engineAt P m i .progress) refl)
 
       -- An unused engine is disabled, so it is not the one that acts.
@@ -204,8 +204,8 @@ module _ (P : Profile) (p : Plan) (image : List ℕ) (R : ℕ → ℕ → Type 0
       go false h =
           record {
             memory = rw (turn-rests P i m h) (I .memory);
-            used = λ j u. untouched j u (λ a. ended-rests i j a m h) (ap (λ (r : Turned). core (engineAt P (r .chip) j)) (turn-rests P i m h));
-            unused = λ j u. ap (λ (r : Turned). engineAt P (r .chip) j .mode) (turn-rests P i m h) ∙ I .unused j u;
+            used = λ j u. untouched j u (λ a. ended-rests i j a m h) (ap (λ (r : TurnResult). core (engineAt P (r .chip) j)) (turn-rests P i m h));
+            unused = λ j u. ap (λ (r : TurnResult). engineAt P (r .chip) j .mode) (turn-rests P i m h) ∙ I .unused j u;
             safe = more (turn-safe s i I) (I .safe);
           }
       go true h =
@@ -214,7 +214,7 @@ module _ (P : Profile) (p : Plan) (image : List ℕ) (R : ℕ → ℕ → Type 0
             used = λ j u. by-test (eqb i j)
                 (λ e. subst (λ (k : ℕ). isUsed (planOf k) ≡ true → KeptAfter (t ∷ s .seen) (turn P i m .chip) k) (eqb-true i j e) (own h) u)
                 (λ e. untouched j u (λ a. ended-other i j a m (eqb-false i j e)) (other-core j h (eqb-false i j e)));
-            unused = λ j u. ap (λ (k : Core). k .mode) (other-core j h (unused-other j h u)) ∙ I .unused j u;
+            unused = λ j u. ap (λ (k : EngineCore). k .mode) (other-core j h (unused-other j h u)) ∙ I .unused j u;
             safe = more (turn-safe s i I) (I .safe);
           }
 
@@ -257,18 +257,18 @@ tick-chip P b s = go (stopped (s .chip))
     go true = refl
     go false = turns-chip P (enginesOf P) 0 (withChip (withPulse b (s .chip)) s)
 
-ticks-chip : (P : Profile) (n : ℕ) (s : Trace) (r : Ran) → s .chip ≡ r .chip → traceTicks P n s .chip ≡ beatsMore P n r .chip
+ticks-chip : (P : Profile) (n : ℕ) (s : Trace) (r : RunResult) → s .chip ≡ r .chip → traceTicks P n s .chip ≡ beatsMore P n r .chip
 unfolding traceTicks beatsMore
 ticks-chip P zero s r h = h
 ticks-chip P (suc n) s r h =
     subst (λ (m : Chip). traceTicks P (suc n) s .chip ≡ cond (quiet m) r (beatsMore P n (oneMore P r)) .chip) h
-    (both (λ (u : Trace) (v : Ran). u .chip ≡ v .chip) (quiet (s .chip)) h
+    (both (λ (u : Trace) (v : RunResult). u .chip ≡ v .chip) (quiet (s .chip)) h
     (ticks-chip P n (traceTick P false s) (oneMore P r) (tick-chip P false s ∙ ap (λ (m : Chip). tick P false m .chip) h)))
 
 call-chip : (P : Profile) (k : Call) (s : Trace) → traceCall P k s .chip ≡ after P k (s .chip)
 unfolding traceCall after runOf
 call-chip P (beat b) s = tick-chip P b s
-call-chip P (run n) s = both (λ (u : Trace) (v : Ran). u .chip ≡ v .chip) (ltb mostBeats n) refl (ticks-chip P n s _ refl)
+call-chip P (run n) s = both (λ (u : Trace) (v : RunResult). u .chip ≡ v .chip) (ltb mostBeats n) refl (ticks-chip P n s _ refl)
 call-chip P (burst a vs) s = refl
 call-chip P readInterrupts s = refl
 

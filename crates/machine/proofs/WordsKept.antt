@@ -32,9 +32,9 @@ use Rattle.machine.specs.declared.Progress.{Progress}
 use Rattle.machine.specs.declared.Progress.the-variants.{BetweenWords, Waiting, Ramping, Triggering}
 use Rattle.machine.specs.declared.Engine.{Engine}
 use Rattle.machine.specs.declared.Chip.{Chip}
-use Rattle.machine.specs.declared.Act.{Act}
+use Rattle.machine.specs.declared.BeatResult.{BeatResult}
 use Rattle.machine.specs.Parts.{zeroCounts, withProgress, pointers}
-use Rattle.machine.specs.WordEnd.{advance, finish}
+use Rattle.machine.specs.WordEnd.{stepPc, finish}
 use Rattle.machine.specs.Durations.{beatsOf, clampTime, waits, ramps, rampsFrom}
 use Rattle.machine.specs.Variables.{variable, jumps, jumpTo, assigns}
 use Rattle.machine.specs.Branches.{branches}
@@ -63,7 +63,7 @@ module _ (P : Profile) (q : EnginePlan) (image : List ℕ) (R : ℕ → Type 0) 
   word = wordAt P image here
 
   -- The engine after an act, with the flags after it.
-  abbrev pub Fine : Act → Type 0
+  abbrev pub Fine : BeatResult → Type 0
   Fine t =
       Kept P q image R
       (t .ended && eqb (addressOf (e .start) (e .pc)) (firstOf q) || f)
@@ -77,7 +77,7 @@ module _ (P : Profile) (q : EnginePlan) (image : List ℕ) (R : ℕ → Type 0) 
   below = G .below here (K .inside)
 
   -- PC moved on does not wrap.
-  pub moved-on : (n : ℕ) → n ≤ 96 → advance (e .pc) n .0 ≡ e .pc .0 + n
+  pub moved-on : (n : ℕ) → n ≤ 96 → stepPc (e .pc) n .0 ≡ e .pc .0 + n
   moved-on n h = omega (arith, below, words-most P, h)
 
   -- A word that starts no table is not the first one, and one that ends none not the second.
@@ -114,15 +114,15 @@ module _ (P : Profile) (q : EnginePlan) (image : List ℕ) (R : ℕ → Type 0) 
       })
 
   -- The next address, as the next PC has it.
-  next-in : R (here + 1) → R (firstOf q + advance (e .pc) 1 .0)
-  next-in h = let a : here + 1 ≡ firstOf q + advance (e .pc) 1 .0 = omega (arith, moved-on 1 (omega arith)) in subst R a h
+  next-in : R (here + 1) → R (firstOf q + stepPc (e .pc) 1 .0)
+  next-in h = let a : here + 1 ≡ firstOf q + stepPc (e .pc) 1 .0 = omega (arith, moved-on 1 (omega arith)) in subst R a h
 
   -- A plain word's end.
   plain-kept : (w : Word) (x : Exec) → word ≡ w → Plain w →
-      Kept P q image R (firstThen P q image R f g (addressOf (e .start) (e .pc))) (secondThen P q image R f g (addressOf (e .start) (e .pc))) (ended x (advance (e .pc) 1) (e .table) (e .loops) (core e))
+      Kept P q image R (firstThen P q image R f g (addressOf (e .start) (e .pc))) (secondThen P q image R f g (addressOf (e .start) (e .pc))) (ended x (stepPc (e .pc) 1) (e .table) (e .loops) (core e))
   plain-kept w x is p =
       let s : AllIn R (successorsOf (firstOf q) here Next) = subst (λ (v : Flow). AllIn R (successorsOf (firstOf q) here v)) (ap flowOf is ∙ p .flow) (good .successors) in
-      still-kept w x (advance (e .pc) 1) (e .loops) is (p .tableUse) (next-in (s .0)) (K .counts)
+      still-kept w x (stepPc (e .pc) 1) (e .loops) is (p .tableUse) (next-in (s .0)) (K .counts)
 
   -- A word that goes on to its next beat.
   lasts-kept : (p : Progress) → Under p word → Kept P q image R f g (core (withProgress p e))
@@ -177,7 +177,7 @@ module _ (P : Profile) (q : EnginePlan) (image : List ℕ) (R : ℕ → Type 0) 
       by-cond Fine (eqb count 0)
       (λ z. still-kept w (e .exec) s (set (e .loops) at n) is u to (stored at n (λ k. zero-loops (there k))))
       (λ z. by-cond Fine (eqb count 1)
-      (λ y. still-kept w (e .exec) (advance (e .pc) 1) (set (e .loops) at 0) is u (next-in (next (goes-on (eqb-true count 1 y)))) (stored at 0 (λ k. refl)))
+      (λ y. still-kept w (e .exec) (stepPc (e .pc) 1) (set (e .loops) at 0) is u (next-in (next (goes-on (eqb-true count 1 y)))) (stored at 0 (λ k. refl)))
       (λ y. still-kept w (e .exec) s (set (e .loops) at (count - 1)) is u to
       (stored at (count - 1) (λ k. absurd (eqb-false count 0 z (K .counts at k))))))
     where
@@ -215,7 +215,7 @@ module _ (P : Profile) (q : EnginePlan) (image : List ℕ) (R : ℕ → Type 0) 
 
   -- What a mux word's pointers have to be, by its use of the table.
   pointed-ends : (u : TableUse) (w : Word) → word ≡ w → tableUseOf w ≡ u → UsesOwnTable q u → hasTable q ≡ true →
-      TableEnds q (e .pc .0) (advance (e .pc) 1 .0) (e .table) (pointed P u (e .table))
+      TableEnds q (e .pc .0) (stepPc (e .pc) 1 .0) (e .table) (pointed P u (e .table))
   pointed-ends Nothing w is i h t =
       let l : 1 < e .pc .0 = later w is i t in
       record { near = λ z. absurd (omega arith); points = K .table t .points (K .table t .one (omega arith)); low = λ z. refl; high = λ z. K .table t .bottom (K .table t .two l) }
@@ -249,7 +249,7 @@ module _ (P : Profile) (q : EnginePlan) (image : List ℕ) (R : ℕ → Type 0) 
   unfolding finish points
   points-fine c memory maps u w is n i s =
       let to : AllIn R (successorsOf (firstOf q) here Next) = subst (λ (v : Flow). AllIn R (successorsOf (firstOf q) here v)) n (s .successors) in
-      ends-kept P q image R f g (core e) (e .exec) (advance (e .pc) 1) (pointed P u (e .table)) (e .loops) K (next-in (to .0)) (K .counts)
+      ends-kept P q image R f g (core e) (e .exec) (stepPc (e .pc) 1) (pointed P u (e .table)) (e .loops) K (next-in (to .0)) (K .counts)
       (pointed-ends u w is i (subst (UsesOwnTable q) i (s .tableUse)))
 
   -- PC 0 is the first word.
@@ -267,7 +267,7 @@ module _ (P : Profile) (q : EnginePlan) (image : List ℕ) (R : ℕ → Type 0) 
   jump-in : (taken : Bool) (k : ℕ) → R (here + 1) → R (here + 1 + k) → R (firstOf q + jumpTo (e .pc) taken k .0)
   jump-in true k n j =
       let small : here + 1 + k < wordsOf P = G .below (here + 1 + k) j in
-      let a : here + 1 + k ≡ firstOf q + advance (e .pc) (1 + k) .0 = omega (arith, words-most P, moved-on (1 + k) (omega (arith, words-most P))) in
+      let a : here + 1 + k ≡ firstOf q + stepPc (e .pc) (1 + k) .0 = omega (arith, words-most P, moved-on (1 + k) (omega (arith, words-most P))) in
       subst R a j
   jump-in false k n j = next-in n
 

@@ -10,7 +10,7 @@ use Rattle.machine.specs.declared.Outcome.{Outcome}
 use Rattle.machine.specs.declared.Outcome.the-variants.{Success, EmptyBurst, UnlistedAddress}
 use Rattle.machine.specs.declared.Register.{Register}
 use Rattle.machine.specs.declared.Register.the-variants.{Control, Modes, OutputLevel, VariableD, Start, Page, Memory, Unlisted}
-use Rattle.machine.specs.declared.Written.{Written}
+use Rattle.machine.specs.declared.WriteResult.{WriteResult}
 use Rattle.machine.specs.Outcome.{numberOf}
 use Rattle.machine.specs.Registers.{registerAt}
 use Rattle.machine.specs.Judged.{judged}
@@ -45,7 +45,7 @@ abbrev pub succeeds : Outcome → Bool
 succeeds o = eqb (numberOf o) 0
 
 -- The bytes in order, up to the first refusal.
-unfoldable pub bytesWritten : Profile → List Placed → Chip → Written
+unfoldable pub bytesWritten : Profile → List Placed → Chip → WriteResult
 bytesWritten P [] m = record { outcome = Success; chip = m }
 bytesWritten P (b ∷ bs) m =
     let r = registerAt P (b .address) in
@@ -54,10 +54,10 @@ bytesWritten P (b ∷ bs) m =
     cond (succeeds o) rest (record { outcome = o; chip = m })
 
 -- One refusal undoes all.
-abbrev pub undone : Chip → Written → Written
+abbrev pub undone : Chip → WriteResult → WriteResult
 undone m w = cond (succeeds (w .outcome)) w (record { outcome = w .outcome; chip = m })
 
-unfoldable pub burstOf : Profile → ℕ → List ℕ → Chip → Written
+unfoldable pub burstOf : Profile → ℕ → List ℕ → Chip → WriteResult
 burstOf P a [] m = record { outcome = EmptyBurst; chip = m }
 burstOf P a (v ∷ vs) m =
     let bs = visited a (v ∷ vs) in

@@ -6,7 +6,7 @@ use Rattle.word.specs.Profile.{Profile, LP5523}
 use Rattle.machine.specs.declared.Mode.{Mode}
 use Rattle.machine.specs.declared.Mode.the-variants.{Disabled, Load, Run, Halt}
 use Rattle.machine.specs.declared.Exec.{Exec}
-use Rattle.machine.specs.declared.Exec.the-variants.{Hold, Step as StepOnce, Free, Once}
+use Rattle.machine.specs.declared.Exec.the-variants.{Hold, SingleStep, Free, Once}
 use Rattle.machine.specs.declared.Register.{Register}
 use Rattle.machine.specs.declared.Register.the-variants.{Control, Modes, OutputLevel, VariableD, Start, Page, Memory, Unlisted}
 
@@ -30,7 +30,7 @@ abbrev pub pairOf : ℕ → ℕ → ℕ
 pairOf v i = v / 4 ^ (2 - i) % 4
 
 abbrev pub execOf : ℕ → Exec
-execOf n = cond (eqb n 0) Hold (cond (eqb n 1) StepOnce (cond (eqb n 2) Free Once))
+execOf n = cond (eqb n 0) Hold (cond (eqb n 1) SingleStep (cond (eqb n 2) Free Once))
 
 abbrev pub modeOf : ℕ → Mode
 modeOf n = cond (eqb n 0) Disabled (cond (eqb n 1) Load (cond (eqb n 2) Run Halt))

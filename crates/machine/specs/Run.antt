@@ -7,7 +7,7 @@ use lib.Dec.{ltb}
 use lib.ListN.{replicate}
 use Rattle.word.specs.Profile.{Profile, enginesOf}
 use Rattle.machine.specs.declared.Chip.{Chip}
-use Rattle.machine.specs.declared.Ran.{Ran}
+use Rattle.machine.specs.declared.RunResult.{RunResult}
 use Rattle.machine.specs.declared.Outcome.{Outcome}
 use Rattle.machine.specs.declared.Outcome.the-variants.{Success, TooManyBeats}
 use Rattle.machine.specs.Turn.{acts}
@@ -24,22 +24,22 @@ tally [] (n ∷ ns) = n ∷ ns
 tally (b ∷ bs) (n ∷ ns) = cond b (n + 1) n ∷ tally bs ns
 
 -- A run's answer one beat later.
-abbrev pub oneMore : Profile → Ran → Ran
+abbrev pub oneMore : Profile → RunResult → RunResult
 oneMore P r =
     let t = tick P false (r .chip) in
     record { outcome = r .outcome; chip = t .chip; beats = r .beats + 1; words = tally (t .ended) (r .words) }
 
 -- At most n beats more.
-unfoldable pub beatsMore : Profile → ℕ → Ran → Ran
+unfoldable pub beatsMore : Profile → ℕ → RunResult → RunResult
 beatsMore P zero r = r
 beatsMore P (suc n) r = let rest = beatsMore P n (oneMore P r) in cond (quiet (r .chip)) r rest
 
 -- No beat done yet.
-abbrev pub beginning : Profile → Outcome → Chip → Ran
+abbrev pub beginning : Profile → Outcome → Chip → RunResult
 beginning P o m = record { outcome = o; chip = m; beats = 0; words = replicate (enginesOf P) 0 }
 
 abbrev pub mostBeats : ℕ
 mostBeats = 1000000
 
-unfoldable pub runOf : Profile → ℕ → Chip → Ran
+unfoldable pub runOf : Profile → ℕ → Chip → RunResult
 runOf P n m = cond (ltb mostBeats n) (beginning P TooManyBeats m) (beatsMore P n (beginning P Success m))

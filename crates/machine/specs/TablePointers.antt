@@ -10,7 +10,7 @@ use Rattle.word.specs.declared.TableUse.{TableUse}
 use Rattle.word.specs.declared.TableUse.the-variants.{Nothing, StartAt, EndAt, RowAt, Forward, Backward}
 use Rattle.machine.specs.declared.Pointers.{Pointers}
 use Rattle.machine.specs.declared.Engine.{Engine}
-use Rattle.machine.specs.declared.Act.{Act}
+use Rattle.machine.specs.declared.BeatResult.{BeatResult}
 use Rattle.machine.specs.Parts.{pointers, withMask, withTable}
 use Rattle.machine.specs.Outputs.{maskOf}
 use Rattle.machine.specs.WordEnd.{goesOn}
@@ -39,5 +39,5 @@ maskAfter P memory true index mask = maskOf P (getD memory index 0)
 maskAfter P memory false index mask = mask
 
 -- A mux word: new pointers, and the mask.
-unfoldable pub points : Profile → ℕ → List ℕ → Engine → Bool → Pointers → Act
+unfoldable pub points : Profile → ℕ → List ℕ → Engine → Bool → Pointers → BeatResult
 points P c memory e maps t = goesOn c (withMask (maskAfter P memory maps (t .index .0) (e .mask)) (withTable t e))

@@ -9,7 +9,7 @@ use Rattle.machine.specs.declared.Mode.{Mode}
 use Rattle.machine.specs.declared.Mode.the-variants.{Disabled, Load, Run, Halt}
 use Rattle.machine.specs.declared.Engine.{Engine}
 use Rattle.machine.specs.declared.Chip.{Chip}
-use Rattle.machine.specs.declared.Ticked.{Ticked}
+use Rattle.machine.specs.declared.TickResult.{TickResult}
 use Rattle.machine.specs.Parts.{each, withEngines}
 use Rattle.machine.specs.Triggers.{pulsed, toPin}
 use Rattle.machine.specs.Turn.{turn}
@@ -37,7 +37,7 @@ abbrev pub withPulse : Bool → Chip → Chip
 withPulse pulse m = withEngines (each (pulsed pulse) 0 (m .engines)) m
 
 -- The turns of n engines, from engine i on.
-unfoldable pub turns : Profile → ℕ → ℕ → Chip → Ticked
+unfoldable pub turns : Profile → ℕ → ℕ → Chip → TickResult
 turns P zero i m = record { chip = m; pin = false; ended = [] }
 turns P (suc n) i m =
     let t = turn P i m in
@@ -45,10 +45,10 @@ turns P (suc n) i m =
     record { chip = rest .chip; pin = toPin (t .send) || rest .pin; ended = t .ended ∷ rest .ended }
 
 -- By whether the chip is stopped.
-abbrev pub tickIf : Profile → Bool → Chip → Bool → Ticked
+abbrev pub tickIf : Profile → Bool → Chip → Bool → TickResult
 tickIf P pulse m true = record { chip = m; pin = false; ended = replicate (enginesOf P) false }
 tickIf P pulse m false = turns P (enginesOf P) 0 (withPulse pulse m)
 
 -- One beat, with or without a pulse at the pin.
-unfoldable pub tick : Profile → Bool → Chip → Ticked
+unfoldable pub tick : Profile → Bool → Chip → TickResult
 tick P pulse m = tickIf P pulse m (stopped m)

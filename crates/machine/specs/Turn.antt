@@ -13,13 +13,13 @@ use Rattle.word.specs.declared.Address.{Address}
 use Rattle.machine.specs.declared.Mode.{Mode}
 use Rattle.machine.specs.declared.Mode.the-variants.{Disabled, Load, Run, Halt}
 use Rattle.machine.specs.declared.Exec.{Exec}
-use Rattle.machine.specs.declared.Exec.the-variants.{Hold, Step as StepOnce, Free, Once}
+use Rattle.machine.specs.declared.Exec.the-variants.{Hold, SingleStep, Free, Once}
 use Rattle.machine.specs.declared.Progress.{Progress}
 use Rattle.machine.specs.declared.Progress.the-variants.{BetweenWords, Waiting, Ramping, Triggering}
 use Rattle.machine.specs.declared.Engine.{Engine}
 use Rattle.machine.specs.declared.Chip.{Chip}
-use Rattle.machine.specs.declared.Act.{Act}
-use Rattle.machine.specs.declared.Turned.{Turned}
+use Rattle.machine.specs.declared.BeatResult.{BeatResult}
+use Rattle.machine.specs.declared.TurnResult.{TurnResult}
 use Rattle.machine.specs.Parts.{each, withPc, engineAt}
 use Rattle.machine.specs.Durations.{waits, ramps}
 use Rattle.machine.specs.Outputs.{outputAfter}
@@ -34,7 +34,7 @@ isRun Halt = false
 
 abbrev pub isHold : Exec → Bool
 isHold Hold = true
-isHold StepOnce = false
+isHold SingleStep = false
 isHold Free = false
 isHold Once = false
 
@@ -60,18 +60,18 @@ abbrev pub returned : Profile → Engine → Engine
 returned P e = cond (ltb (addressOf (e .start) (e .pc)) (wordsOf P)) e (withPc (stepAt 0) e)
 
 -- The first beat of the word that engine e fetches, with C, D and the memory given.
-abbrev pub starts : Profile → ℕ → ℕ → List ℕ → Engine → Act
+abbrev pub starts : Profile → ℕ → ℕ → List ℕ → Engine → BeatResult
 starts P c d memory e = begins P c d memory e (addressOf (e .start) (e .pc)) (wordAt P memory (addressOf (e .start) (e .pc)))
 
 -- A beat of engine e, by its word in progress. It sees C, D and the memory, and nothing else of the chip.
-unfoldable pub beatOf : Profile → ℕ → ℕ → List ℕ → Engine → Progress → Act
+unfoldable pub beatOf : Profile → ℕ → ℕ → List ℕ → Engine → Progress → BeatResult
 beatOf P c d memory e BetweenWords = starts P c d memory (returned P e)
 beatOf P c d memory e (Waiting n) = waits c e n
 beatOf P c d memory e (Ramping dir p l n) = ramps c e dir p l n
 beatOf P c d memory e (Triggering w x) = triggers c e w x
 
 -- The chip after a beat of engine i.
-abbrev pub applied : Profile → ℕ → Chip → Act → Turned
+abbrev pub applied : Profile → ℕ → Chip → BeatResult → TurnResult
 applied P i m t =
     record {
       chip = record {
@@ -88,9 +88,9 @@ applied P i m t =
     }
 
 -- By whether the engine acts.
-abbrev pub turnIf : Profile → ℕ → Chip → Bool → Turned
+abbrev pub turnIf : Profile → ℕ → Chip → Bool → TurnResult
 turnIf P i m true = applied P i m (beatOf P (m .c) (m .d) (m .memory) (engineAt P m i) (engineAt P m i .progress))
 turnIf P i m false = record { chip = m; send = 0; ended = false }
 
-unfoldable pub turn : Profile → ℕ → Chip → Turned
+unfoldable pub turn : Profile → ℕ → Chip → TurnResult
 turn P i m = turnIf P i m (acts (engineAt P m i))

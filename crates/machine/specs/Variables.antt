@@ -11,9 +11,9 @@ use Rattle.word.specs.declared.ArithOp.the-variants.{Ld, Add, Sub}
 use Rattle.word.specs.declared.ArithVarOp.{ArithVarOp}
 use Rattle.word.specs.declared.ArithVarOp.the-variants.{AddVar, SubVar}
 use Rattle.machine.specs.declared.Engine.{Engine}
-use Rattle.machine.specs.declared.Act.{Act}
+use Rattle.machine.specs.declared.BeatResult.{BeatResult}
 use Rattle.machine.specs.Parts.{withVariables}
-use Rattle.machine.specs.WordEnd.{advance, goesOn}
+use Rattle.machine.specs.WordEnd.{stepPc, goesOn}
 
 -- Variable v, with C and D given: 0 is A, 1 is B, 2 is C, 3 is D.
 abbrev pub variable : ℕ → ℕ → Engine → ℕ → ℕ
@@ -36,7 +36,7 @@ combined AddVar x y = added x y
 combined SubVar x y = subtracted x y
 
 -- Variable v becomes x, and the word ends.
-unfoldable pub assigns : ℕ → Engine → ℕ → ℕ → Act
+unfoldable pub assigns : ℕ → Engine → ℕ → ℕ → BeatResult
 assigns c e v x = goesOn (cond (eqb v 2) x c) (withVariables (cond (eqb v 0) x (e .a)) (cond (eqb v 1) x (e .b)) e)
 
 -- Whether a jump is taken.
@@ -48,4 +48,4 @@ jumps Je x y = eqb x y
 
 -- PC after a jump.
 abbrev pub jumpTo : Step → Bool → ℕ → Step
-jumpTo pc taken skip = advance pc (cond taken (1 + skip) 1)
+jumpTo pc taken skip = stepPc pc (cond taken (1 + skip) 1)

@@ -12,9 +12,9 @@ use Rattle.machine.specs.declared.Mode.the-variants.{Halt}
 use Rattle.machine.specs.declared.Exec.the-variants.{Hold}
 use Rattle.machine.specs.declared.Engine.{Engine}
 use Rattle.machine.specs.declared.Effect.the-variants.{Keep, Put}
-use Rattle.machine.specs.declared.Act.{Act}
+use Rattle.machine.specs.declared.BeatResult.{BeatResult}
 use Rattle.machine.specs.Parts.{zeroCounts, withMode, withExec, withMask, withInterrupt, withFault, withLoops}
-use Rattle.machine.specs.WordEnd.{advance, finish, ends, goesOn}
+use Rattle.machine.specs.WordEnd.{stepPc, finish, ends, goesOn}
 use Rattle.machine.specs.Durations.{beatsOf, clampTime, waits, rampsFrom}
 use Rattle.machine.specs.Outputs.{maskOfOutput}
 use Rattle.machine.specs.Variables.{variable, computed, combined, assigns, jumps, jumpTo}
@@ -23,7 +23,7 @@ use Rattle.machine.specs.Triggers.{triggers}
 use Rattle.machine.specs.TablePointers.{pointed, points}
 
 -- end: "raises the interrupt flag if i=1, sets hold, PC stays, or is 0 with counts 0 if z=1".
-unfoldable pub stops : Profile → ℕ → Engine → Bool → Bool → Act
+unfoldable pub stops : Profile → ℕ → Engine → Bool → Bool → BeatResult
 stops P c e int reset =
     record {
       own = withExec Hold (finish (cond reset (stepAt 0) (e .pc)) (withInterrupt (e .interrupt || int) (withLoops (cond reset (zeroCounts P) (e .loops)) e)));
@@ -34,18 +34,18 @@ stops P c e int reset =
     }
 
 -- "An undefined word sets mode 11 and the fault flag, unfinished."
-abbrev pub faults : ℕ → Engine → Act
+abbrev pub faults : ℕ → Engine → BeatResult
 faults c e = record { own = withMode Halt (withFault true e); c = c; effect = Keep; send = 0; ended = false }
 
 -- The first beat of a word that engine e has fetched at address a. A word sees its engine, C, D, and the memory for its rows, and nothing
 -- else of the chip.
-unfoldable pub begins : Profile → ℕ → ℕ → List ℕ → Engine → ℕ → Word → Act
+unfoldable pub begins : Profile → ℕ → ℕ → List ℕ → Engine → ℕ → Word → BeatResult
 begins P c d memory e a Rst = ends c (withLoops (zeroCounts P) e) Keep 0 (stepAt 0)
 begins P c d memory e a (Ramp p t dir n) = rampsFrom c e dir (beatsOf p t) n
 begins P c d memory e a (Wait p t) = waits c e (beatsOf p t)
-begins P c d memory e a (Set n) = ends c e (Put n) 0 (advance (e .pc) 1)
+begins P c d memory e a (Set n) = ends c e (Put n) 0 (stepPc (e .pc) 1)
 begins P c d memory e a (RampVar p dir l r) = rampsFrom c e dir (beatsOf p (clampTime (variable c d e l))) (variable c d e r)
-begins P c d memory e a (SetVar v) = ends c e (Put (variable c d e v)) 0 (advance (e .pc) 1)
+begins P c d memory e a (SetVar v) = ends c e (Put (variable c d e v)) 0 (stepPc (e .pc) 1)
 begins P c d memory e a (BranchVar v s) = branches c e a (variable c d e v) s
 begins P c d memory e a (Jump op k l r) = ends c e Keep 0 (jumpTo (e .pc) (jumps op (variable c d e l) (variable c d e r)) k)
 begins P c d memory e a (Arith op v n) = assigns c e v (computed op (variable c d e v) n)

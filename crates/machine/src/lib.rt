@@ -15,7 +15,7 @@ pub enum Mode {
 // An engine's run setting, as register 00h has it: 00, 01, 10, 11.
 pub enum Exec {
     Hold,
-    Step,
+    SingleStep,
     Free,
     Once,
 }
@@ -89,7 +89,7 @@ pub enum Effect {
 
 // What one beat of a word gives: its engine afterwards, variable C, the effect on the held outputs,
 // the triggers sent, and whether the word ended.
-pub struct Act {
+pub struct BeatResult {
     pub own: Engine,
     pub c: u8,
     pub effect: Effect,
@@ -98,14 +98,14 @@ pub struct Act {
 }
 
 // What an engine's turn gives: the chip, the triggers sent, and whether a word ended.
-pub struct Turned {
+pub struct TurnResult {
     pub chip: Chip,
     pub send: u16,
     pub ended: bool,
 }
 
 // What a beat gives: the chip, the pin output event, and which engines ended a word.
-pub struct Ticked {
+pub struct TickResult {
     pub chip: Chip,
     pub pin: bool,
     pub ended: [bool; 3],
@@ -125,7 +125,7 @@ pub enum Outcome {
 }
 
 // What a run gives: the chip, the beats done and the words finished by each engine.
-pub struct Ran {
+pub struct RunResult {
     pub outcome: Outcome,
     pub chip: Chip,
     pub beats: u32,
@@ -133,7 +133,7 @@ pub struct Ran {
 }
 
 // What a burst gives.
-pub struct Written {
+pub struct WriteResult {
     pub outcome: Outcome,
     pub chip: Chip,
 }

@@ -8,8 +8,8 @@ use Rattle.machine.specs.declared.Chip.{Chip}
 use Rattle.machine.specs.declared.Output.{Output}
 use Rattle.machine.specs.declared.Effect.{Effect}
 use Rattle.machine.specs.declared.Outcome.the-variants.{Success}
-use Rattle.machine.specs.declared.Turned.{Turned}
-use Rattle.machine.specs.declared.Ticked.{Ticked}
+use Rattle.machine.specs.declared.TurnResult.{TurnResult}
+use Rattle.machine.specs.declared.TickResult.{TickResult}
 use Rattle.machine.specs.Parts.{bit, each, engineAt}
 use Rattle.machine.specs.Outputs.{rowBit, affected}
 use Rattle.engine_core.specs.Core.{engineOf}
@@ -52,10 +52,10 @@ chipOf f k l =
       engines = engineOf (k .one) (l .counts1) ∷ engineOf (k .two) (l .counts2) ∷ engineOf (k .three) (l .counts3) ∷ [];
     }
 
-abbrev pub turnedOf : Fixed → CoresTurned → Lent → Turned
+abbrev pub turnedOf : Fixed → CoresTurned → Lent → TurnResult
 turnedOf f t l = record { chip = chipOf f (t .cores) l; send = t .send; ended = t .ended }
 
-abbrev pub tickedOf : Fixed → CoresTicked → Lent → Ticked
+abbrev pub tickedOf : Fixed → CoresTicked → Lent → TickResult
 tickedOf f t l = record { chip = chipOf f (t .cores) l; pin = t .pin; ended = t .ended1 ∷ t .ended2 ∷ t .ended3 ∷ [] }
 
 -- A level after a beat, where the engine holds the outputs whose row bits are in `held`.

@@ -12,10 +12,10 @@ use crate::numbers;
 use crate::numbers::Numbers;
 use crate::print;
 use machine::Chip;
-use machine::Written;
+use machine::WriteResult;
 
 // A burst: the number that it answers.
-fn answered(written: Written) -> Chip {
+fn answered(written: WriteResult) -> Chip {
     let outcome = written.outcome;
     print::say(b" answer=$", [refusals::number_of(outcome) as u32, 0, 0, 0]);
     written.chip

@@ -6,7 +6,7 @@ use crate::pieces::until;
 use crate::print;
 use machine::Chip;
 use machine::Outcome;
-use machine::Written;
+use machine::WriteResult;
 use text_bytes::put_byte;
 ghost use Prim.Native.Nat.{_<_};
 
@@ -19,7 +19,7 @@ pub fn refusal(outcome: Outcome) {
 }
 
 // The chip after a burst that is meant to succeed.
-pub fn expected(written: Written) -> Chip {
+pub fn expected(written: WriteResult) -> Chip {
     let outcome = written.outcome;
     refusal(outcome);
     written.chip
@@ -37,7 +37,7 @@ fn put_numbers(bytes: &mut [u8], n: Numbers, first: usize) -> usize {
 }
 
 // A burst of the numbers from a place on.
-pub fn burst_of(m: Chip, address: u16, n: Numbers, first: usize) -> Written {
+pub fn burst_of(m: Chip, address: u16, n: Numbers, first: usize) -> WriteResult {
     let mut bytes = [0u8; 40];
     let count = put_numbers(&mut bytes, n, first);
     chip::burst(m, address, until(&bytes, count))

@@ -28,7 +28,7 @@ fn setting_of(e: Engine) -> u32 {
     let exec = e.exec;
     match exec {
         Exec::Hold => 0,
-        Exec::Step => 1,
+        Exec::SingleStep => 1,
         Exec::Free => 2,
         Exec::Once => 3,
     }

@@ -25,7 +25,7 @@ pub(super) fn exec_of(byte: u8, i: usize) -> Exec
 {
     match pair_of(byte, i) {
         0 => Exec::Hold,
-        1 => Exec::Step,
+        1 => Exec::SingleStep,
         2 => Exec::Free,
         _ => Exec::Once,
     }

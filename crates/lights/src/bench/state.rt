@@ -53,7 +53,7 @@ fn settings(number: u32, e: Engine) -> [u32; 8] {
     };
     let run_bits = match exec {
         Exec::Hold => 0,
-        Exec::Step => 1,
+        Exec::SingleStep => 1,
         Exec::Free => 2,
         Exec::Once => 3,
     };

@@ -6,7 +6,7 @@ use borrow.Author.Needs.{needs}
 use Rattle.beats.specs.internal.Parts.{Fixed, lent, spanned}
 use Rattle.beats.specs.Spans.{spanOf}
 use Rattle.beats.proofs.SpanOf.{span-quiet, span-done, span-on}
-use Rattle.beats.proofs.AdvanceOf.{at-most}
+use Rattle.beats.proofs.RunBeatsOf.{at-most}
 use Rattle.beats.proofs.spans.span.Statement.{statement}
 use Rattle.beats.proofs.spans.span.Tie as tie
 

@@ -13,7 +13,7 @@ returns : tie.Need-returns
 returns c = sym (refused-run LP5523 _ _ (omega (arith, c .if1 .taken)))
 
 returns-2 : tie.Need-returns-2
-returns-2 c = ap (λ (s : Span). s .ran) (c .before .advance .ensures) ∙ run-of-span _ _ (omega (arith, c .before .before .if1 .left))
+returns-2 c = ap (λ (s : Span). s .ran) (c .before .run-beats .ensures) ∙ run-of-span _ _ (omega (arith, c .before .before .if1 .left))
 
 pub run-spec : {M : Type 1} → statement M
 run-spec = tie.close (tie.spec returns (search needs) returns-2)

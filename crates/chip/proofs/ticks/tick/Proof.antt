@@ -11,10 +11,10 @@ use Rattle.chip.proofs.ticks.tick.Tie as tie
 returns : tie.Need-returns
 returns c =
     let c5 = c .before .before .before .before .before in let c6 = c5 .before in
-    let s = c5 .advance .result in let m = c6 .args .chip in
-    let w : length (s .ran .words) ≡ 3 = search (needs, unmapped, c5 .advance .ok .1 .1 .0 .1 .1 .1 .1 .1 .0) in
+    let s = c5 .run-beats .result in let m = c6 .args .chip in
+    let w : length (s .ran .words) ≡ 3 = search (needs, unmapped, c5 .run-beats .ok .1 .1 .0 .1 .1 .1 .1 .1 .0) in
     let e : length (m .engines) ≡ 3 = search (needs, unmapped, c6 .good .0 .1 .1 .1 .1 .1 .1 .1 .1 .0) in
-    ended-three s _ w ∙ ap tickedFrom (c5 .advance .ensures) ∙ beat-of-span _ m e
+    ended-three s _ w ∙ ap tickedFrom (c5 .run-beats .ensures) ∙ beat-of-span _ m e
 
 pub tick-spec : {M : Type 1} → statement M
 tick-spec = tie.close (tie.spec (search needs) (search needs) (search needs) (search needs) returns)

@@ -10,7 +10,7 @@ part-ends-spec =
     (tie.spec
     (search needs)
     (search needs)
-    (λ c counts. rw (le-leb _ _ (c .before .before .before .if1 .taken)) (rw (c .before .advance .ensures) at (c .ends .ensures counts)))
+    (λ c counts. rw (le-leb _ _ (c .before .before .before .if1 .taken)) (rw (c .before .step-pc .ensures) at (c .ends .ensures counts)))
     (search needs)
     (search needs)
     (λ c counts. rw (lt-leb _ _ (c .before .if1 .left)) (c .lasts .ensures counts)))

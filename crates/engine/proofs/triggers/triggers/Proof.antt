@@ -12,6 +12,6 @@ triggers-spec =
     (tie.spec
     (search needs)
     (search needs)
-    (λ c counts. rw (eq-eqb _ _ (c .before .before .before .before .if1 .taken)) (rw (c .before .advance .ensures) at (c .ends .ensures counts)))
+    (λ c counts. rw (eq-eqb _ _ (c .before .before .before .before .if1 .taken)) (rw (c .before .step-pc .ensures) at (c .ends .ensures counts)))
     (search needs)
     (λ c counts. rw (ne-eqb _ _ (c .before .if1 .left)) (c .lasts .ensures counts)))

@@ -15,11 +15,11 @@ jump-spec =
     (search needs)
     (λ c counts.
     let c2 = c .before .before in let c3 = c2 .before in let c4 = c3 .before in
-    rw (← c4 .before .variable .ensures counts, ← c4 .variable2 .ensures counts, ← c3 .jumps .ensures, c2 .if1 .taken, ← c .before .advance .ensures)
+    rw (← c4 .before .variable .ensures counts, ← c4 .variable2 .ensures counts, ← c3 .jumps .ensures, c2 .if1 .taken, ← c .before .step-pc .ensures)
     (c .ends .ensures counts))
     (search needs)
     (search needs)
     (λ c counts.
     let c2 = c .before .before in let c3 = c2 .before in let c4 = c3 .before in
-    rw (← c4 .before .variable .ensures counts, ← c4 .variable2 .ensures counts, ← c3 .jumps .ensures, c2 .if1 .left, ← c .before .advance2 .ensures)
+    rw (← c4 .before .variable .ensures counts, ← c4 .variable2 .ensures counts, ← c3 .jumps .ensures, c2 .if1 .left, ← c .before .step-pc2 .ensures)
     (c .ends2 .ensures counts)))

@@ -5,4 +5,4 @@ use Rattle.engine.proofs.word_end.goes_on.Tie as tie
 
 pub goes-on-spec : {M : Type 1} → statement M
 goes-on-spec =
-    tie.close (tie.spec (search needs) (search needs) (λ c counts. rw (c .before .advance .ensures) at (c .ends .ensures counts)))
+    tie.close (tie.spec (search needs) (search needs) (λ c counts. rw (c .before .step-pc .ensures) at (c .ends .ensures counts)))

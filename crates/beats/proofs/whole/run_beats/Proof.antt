@@ -1,10 +1,10 @@
--- `beats::whole::advance` meets its contract.
+-- `beats::whole::run_beats` meets its contract.
 use mathlib.Core.Path.{refl}
 use borrow.Author.Needs.{needs}
 use Rattle.beats.specs.internal.Parts.{fixedOf, lent, lentOf}
-use Rattle.beats.proofs.AdvanceOf.{lent-of, advanced}
-use Rattle.beats.proofs.whole.advance.Statement.{statement}
-use Rattle.beats.proofs.whole.advance.Tie as tie
+use Rattle.beats.proofs.RunBeatsOf.{lent-of, advanced}
+use Rattle.beats.proofs.whole.run_beats.Statement.{statement}
+use Rattle.beats.proofs.whole.run_beats.Tie as tie
 
 returns : tie.Need-returns
 returns c =
@@ -22,5 +22,5 @@ returns c =
     (c8 .with-pulse .ensures)
     (c2 .span .ensures (fixedOf m) refl refl refl)
 
-pub advance-spec : {M : Type 1} → statement M
-advance-spec = tie.close (tie.spec (search needs) (search needs) (search needs) (search needs) (search needs) (search needs) (search needs) (search needs) (search needs) (search needs) returns)
+pub run-beats-spec : {M : Type 1} → statement M
+run-beats-spec = tie.close (tie.spec (search needs) (search needs) (search needs) (search needs) (search needs) (search needs) (search needs) (search needs) (search needs) (search needs) returns)
