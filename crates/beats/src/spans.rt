@@ -1,5 +1,5 @@
 // Beats one after another, for a single beat and for a run: the one place that calls `beat`, so that
-// the compiler takes it into the loop.
+// the compiler inlines it.
 use super::beats::beat;
 use super::stops::quiet;
 use crate::Cores;

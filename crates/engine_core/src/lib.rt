@@ -26,8 +26,8 @@ pub struct Status {
 }
 
 // An engine without its branch counts. The order is for speed: the compiler moves neighbours in one
-// piece, and a processor has to wait where it reads in one piece what it has just written in several.
-// So what a beat looks at by itself (pending, mask, status) parts the other fields.
+// piece, and a processor stalls where it reads in one piece what it has just written in several
+// (store forwarding). So what a beat looks at by itself (pending, mask, status) parts the other fields.
 pub struct EngineCore {
     pub start: Address,
     pub table: Pointers,

@@ -44,7 +44,7 @@ value-read decision n v e =
     let h = keyword-read answers n v e in
     (h .0, lt-ltb n (length answers) (h .1))
 
--- nothing is no value of any kind
+-- an empty value is of no kind
 value-empty : (k : Kind) → readValue k [] ≡ Malformed
 unfolding readValue held readNumber isNumber readKeyword isKeyword
 value-empty (number rs) = refl

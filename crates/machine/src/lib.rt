@@ -26,7 +26,7 @@ pub enum Progress {
     Waiting {
         left: u16,
     },
-    // `left` beats of `part` are to come in the part under way, which is the first of `parts`
+    // `part` beats make a part; `left` of them are left in this one, which is the first of `parts`
     Ramping {
         dir: Direction,
         part: u16,

@@ -8,7 +8,7 @@ const DIGIT_ZERO: u8 = 48;
 
 const DIGIT_NINE: u8 = 57;
 
-// One more than the greatest number that is told apart.
+// The saturation limit: one more than the greatest number that is kept.
 const TOO_LARGE: u64 = 4_294_967_296;
 
 // Digits: their number where it is below TOO_LARGE, else TOO_LARGE; or a byte that is no digit.

@@ -6,7 +6,7 @@ use Rattle.text.specs.Number.{isDigit}
 use Rattle.text_bytes.specs.declared.decimals.Digits.{Digits}
 use Rattle.text_bytes.specs.declared.decimals.Digits.the-variants.{Upto, Broken}
 
--- One more than the greatest number that is told apart.
+-- The saturation limit: one more than the greatest number that is kept.
 abbrev pub tooLarge : ℕ
 tooLarge = 4294967296
 
