@@ -118,7 +118,7 @@ fn print_engines(m: Chip, view: View, at: usize)
 }
 
 // A view's name and what is seen; for a view with a place, the one at this place.
-pub fn shown(m: Chip, name: &[u8], at: usize)
+pub(super) fn shown(m: Chip, name: &[u8], at: usize)
     requires { ⌜ at < 96 ⌝ }
 {
     let view = view_named(name);

@@ -28,7 +28,7 @@ pub fn put_words(out: &mut [u8], at: usize, words: &[u16]) -> usize {
 }
 
 // The byte after word i of so many.
-pub fn separator(i: usize, count: usize) -> u8
+pub(crate) fn separator(i: usize, count: usize) -> u8
     requires { ⌜ i < count ⌝ }
 {
     if i % 16 == 15 || i + 1 == count {
