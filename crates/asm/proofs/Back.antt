@@ -13,7 +13,7 @@ use Rattle.plan.specs.declared.EnginePlan.{EnginePlan}
 use Rattle.plan.specs.declared.Plan.{Plan}
 use Rattle.plan.specs.declared.Verdict.{Verdict}
 use Rattle.plan.specs.declared.Verdict.the-variants.{Accept}
-use Rattle.plan.specs.Conditions.{InOrder}
+use Rattle.plan.specs.Conditions.{ValidRanges}
 use Rattle.plan.specs.Verdict.{reportOf}
 use Rattle.plan.specs.Check.{checkRangesOf}
 use Rattle.grammar.specs.declared.LineKind.the-variants as kind
@@ -36,7 +36,7 @@ BackAt P p a w = readWordLine P (lineKindAt P p a) (wordLine P (lineKindAt P p a
 -- Plans that are in order.
 abbrev pub Ready : Profile → List EnginePlan → Type 0
 Ready P [] = Unit {0}
-Ready P (q ∷ qs) = InOrder P q × Ready P qs
+Ready P (q ∷ qs) = ValidRanges P q × Ready P qs
 
 module _ (P : Profile) (line t : List ℕ) (whole : lacks lineFeed line ≡ true) where
   -- a line is read, and then the text after its LF

@@ -11,7 +11,7 @@ use Rattle.laws.proofs.Tests.{by-test}
 use Rattle.word.specs.Profile.{Profile}
 use Rattle.word.specs.declared.Address.{Address}
 use Rattle.plan.specs.declared.EnginePlan.{EnginePlan}
-use Rattle.plan.specs.declared.EnginePlan.the-variants.{Unused, Code, CodeAndTable}
+use Rattle.plan.specs.declared.EnginePlan.the-variants.{Unused, CodeOnly, CodeAndTable}
 use Rattle.plan.specs.declared.Plan.{Plan}
 use Rattle.plan.specs.Ranges.{enginePlans, planAt, InRange, InCode}
 use Rattle.plan.specs.Tests.{inRange, inCode}
@@ -25,7 +25,7 @@ in-range f l a = both (leb (f .0) a) (leb a (l .0)) (leb-true (f .0) a, le-leb (
 
 in-code : (q : EnginePlan) (a : ℕ) → (inCode q a ≡ true) ↔ InCode q a
 in-code Unused a = (λ e. false≢true e, λ h. absurd h)
-in-code (Code f l) a = in-range f l a
+in-code (CodeOnly f l) a = in-range f l a
 in-code (CodeAndTable f l t b) a = in-range f l a
 
 -- some engine of a list

@@ -12,10 +12,10 @@ use Rattle.laws.proofs.Tests.{by-test}
 use Rattle.word.specs.Profile.{Profile}
 use Rattle.asm.specs.Reading.{Sheet, refused-at, readSheet}
 use Rattle.asm.specs.Theorems.{RefusesExactly}
-use Rattle.asm.specs.Conditions.{Line, linesOf, planSaid, numberAt, lineCount, GoodTo, FirstBad, GoodLines, PlanOrdered, PlanApart}
+use Rattle.asm.specs.Conditions.{Line, linesOf, planSaid, numberAt, lineCount, GoodTo, FirstBad, GoodLines, PlanValid, PlanDisjoint}
 use Rattle.asm.specs.Answers.{numberIn, lineIn}
 use Rattle.asm.proofs.Steps.{never}
-use Rattle.asm.proofs.Outcome.{Outcome, bad, miscounted, out-of-order, code-meets-table, is-read, sheet-outcome}
+use Rattle.asm.proofs.Outcome.{Outcome, bad, miscounted, invalid-range, code-overlaps-table, is-read, sheet-outcome}
 
 -- two answers with different numbers, or in different lines
 other-number : {r s t : Sheet} → r ≡ s → r ≡ t → (numberIn s ≡ numberIn t → ⊥) → ⊥
@@ -48,8 +48,8 @@ module _ (P : Profile) (ls : List Line) where
         let z : j ≡ k = omega (arith, ap lineIn (sym e ∙ h)) in
         subst (λ (i : ℕ). FirstBad P ls i n) z (subst (FirstBad P ls j) (ap numberIn (sym e ∙ h)) f)
     line-told k n (miscounted g d e) h = absurd (other-line e h (λ z. omega arith))
-    line-told k n (out-of-order g o e) h = absurd (other-line e h (λ z. omega arith))
-    line-told k n (code-meets-table g o m e) h = absurd (other-line e h (λ z. omega arith))
+    line-told k n (invalid-range g o e) h = absurd (other-line e h (λ z. omega arith))
+    line-told k n (code-overlaps-table g o m e) h = absurd (other-line e h (λ z. omega arith))
     line-told k n (is-read g o m p ws e) h = absurd (other-line e h (λ z. omega arith))
 
     line-given : (k n : ℕ) → Outcome P ls r → FirstBad P ls k n → r ≡ refused-at n (k + 1)
@@ -57,67 +57,67 @@ module _ (P : Profile) (ls : List Line) where
         let z = same-line j m k n f h in
         e ∙ ap₂ (λ (x i : ℕ). refused-at x (i + 1)) (sym (f .bad) ∙ ap (numberAt P ls) z ∙ h .bad) z
     line-given k n (miscounted g d e) h = absurd (spoiled k n h g)
-    line-given k n (out-of-order g o e) h = absurd (spoiled k n h (g .0))
-    line-given k n (code-meets-table g o m e) h = absurd (spoiled k n h (g .0))
+    line-given k n (invalid-range g o e) h = absurd (spoiled k n h (g .0))
+    line-given k n (code-overlaps-table g o m e) h = absurd (spoiled k n h (g .0))
     line-given k n (is-read g o m p ws e) h = absurd (spoiled k n h (g .0))
 
     -- 23
     count-told : Outcome P ls r → r ≡ refused-at 23 0 → GoodTo P ls (lineCount P) × (length ls ≡ lineCount P → ⊥)
     count-told (bad j m f e) h = absurd (other-line e h (λ z. omega arith))
     count-told (miscounted g d e) h = (g, d)
-    count-told (out-of-order g o e) h = absurd (other-number e h (λ z. omega arith))
-    count-told (code-meets-table g o m e) h = absurd (other-number e h (λ z. omega arith))
+    count-told (invalid-range g o e) h = absurd (other-number e h (λ z. omega arith))
+    count-told (code-overlaps-table g o m e) h = absurd (other-number e h (λ z. omega arith))
     count-told (is-read g o m p ws e) h = absurd (other-number e h (λ z. omega arith))
 
     count-given : Outcome P ls r → GoodTo P ls (lineCount P) × (length ls ≡ lineCount P → ⊥) → r ≡ refused-at 23 0
     count-given (bad j m f e) h = absurd (spoiled j m f (h .0))
     count-given (miscounted g d e) h = e
-    count-given (out-of-order g o e) h = absurd (h .1 (g .1))
-    count-given (code-meets-table g o m e) h = absurd (h .1 (g .1))
+    count-given (invalid-range g o e) h = absurd (h .1 (g .1))
+    count-given (code-overlaps-table g o m e) h = absurd (h .1 (g .1))
     count-given (is-read g o m p ws e) h = absurd (h .1 (g .1))
 
     -- 11
-    abbrev Disorder : Type 0
-    Disorder = GoodLines P ls × (PlanOrdered P (planSaid P ls) → ⊥)
+    abbrev Invalid : Type 0
+    Invalid = GoodLines P ls × (PlanValid P (planSaid P ls) → ⊥)
 
-    order-told : Outcome P ls r → r ≡ refused-at 11 0 → Disorder
-    order-told (bad j m f e) h = absurd (other-line e h (λ z. omega arith))
-    order-told (miscounted g d e) h = absurd (other-number e h (λ z. omega arith))
-    order-told (out-of-order g o e) h = (g, o)
-    order-told (code-meets-table g o m e) h = absurd (other-number e h (λ z. omega arith))
-    order-told (is-read g o m p ws e) h = absurd (other-number e h (λ z. omega arith))
+    invalid-told : Outcome P ls r → r ≡ refused-at 11 0 → Invalid
+    invalid-told (bad j m f e) h = absurd (other-line e h (λ z. omega arith))
+    invalid-told (miscounted g d e) h = absurd (other-number e h (λ z. omega arith))
+    invalid-told (invalid-range g o e) h = (g, o)
+    invalid-told (code-overlaps-table g o m e) h = absurd (other-number e h (λ z. omega arith))
+    invalid-told (is-read g o m p ws e) h = absurd (other-number e h (λ z. omega arith))
 
-    order-given : Outcome P ls r → Disorder → r ≡ refused-at 11 0
-    order-given (bad j m f e) h = absurd (spoiled j m f (h .0 .0))
-    order-given (miscounted g d e) h = absurd (d (h .0 .1))
-    order-given (out-of-order g o e) h = e
-    order-given (code-meets-table g o m e) h = absurd (h .1 o)
-    order-given (is-read g o m p ws e) h = absurd (h .1 o)
+    invalid-given : Outcome P ls r → Invalid → r ≡ refused-at 11 0
+    invalid-given (bad j m f e) h = absurd (spoiled j m f (h .0 .0))
+    invalid-given (miscounted g d e) h = absurd (d (h .0 .1))
+    invalid-given (invalid-range g o e) h = e
+    invalid-given (code-overlaps-table g o m e) h = absurd (h .1 o)
+    invalid-given (is-read g o m p ws e) h = absurd (h .1 o)
 
     -- 12
-    abbrev Meeting : Type 0
-    Meeting = GoodLines P ls × PlanOrdered P (planSaid P ls) × (PlanApart P (planSaid P ls) → ⊥)
+    abbrev Overlap : Type 0
+    Overlap = GoodLines P ls × PlanValid P (planSaid P ls) × (PlanDisjoint P (planSaid P ls) → ⊥)
 
-    meeting-told : Outcome P ls r → r ≡ refused-at 12 0 → Meeting
-    meeting-told (bad j m f e) h = absurd (other-line e h (λ z. omega arith))
-    meeting-told (miscounted g d e) h = absurd (other-number e h (λ z. omega arith))
-    meeting-told (out-of-order g o e) h = absurd (other-number e h (λ z. omega arith))
-    meeting-told (code-meets-table g o m e) h = (g, o, m)
-    meeting-told (is-read g o m p ws e) h = absurd (other-number e h (λ z. omega arith))
+    overlap-told : Outcome P ls r → r ≡ refused-at 12 0 → Overlap
+    overlap-told (bad j m f e) h = absurd (other-line e h (λ z. omega arith))
+    overlap-told (miscounted g d e) h = absurd (other-number e h (λ z. omega arith))
+    overlap-told (invalid-range g o e) h = absurd (other-number e h (λ z. omega arith))
+    overlap-told (code-overlaps-table g o m e) h = (g, o, m)
+    overlap-told (is-read g o m p ws e) h = absurd (other-number e h (λ z. omega arith))
 
-    meeting-given : Outcome P ls r → Meeting → r ≡ refused-at 12 0
-    meeting-given (bad j m f e) h = absurd (spoiled j m f (h .0 .0))
-    meeting-given (miscounted g d e) h = absurd (d (h .0 .1))
-    meeting-given (out-of-order g o e) h = absurd (o (h .1))
-    meeting-given (code-meets-table g o m e) h = e
-    meeting-given (is-read g o m p ws e) h = absurd (h .2 m)
+    overlap-given : Outcome P ls r → Overlap → r ≡ refused-at 12 0
+    overlap-given (bad j m f e) h = absurd (spoiled j m f (h .0 .0))
+    overlap-given (miscounted g d e) h = absurd (d (h .0 .1))
+    overlap-given (invalid-range g o e) h = absurd (o (h .1))
+    overlap-given (code-overlaps-table g o m e) h = e
+    overlap-given (is-read g o m p ws e) h = absurd (h .2 m)
 
     -- and no other number stands in no line
     others-told : (n : ℕ) → Outcome P ls r → r ≡ refused-at n 0 → (n ≡ 23) ⊎ ((n ≡ 11) ⊎ (n ≡ 12))
     others-told n (bad j m f e) h = absurd (other-line e h (λ z. omega arith))
     others-told n (miscounted g d e) h = inl (ap numberIn (sym h ∙ e))
-    others-told n (out-of-order g o e) h = inr (inl (ap numberIn (sym h ∙ e)))
-    others-told n (code-meets-table g o m e) h = inr (inr (ap numberIn (sym h ∙ e)))
+    others-told n (invalid-range g o e) h = inr (inl (ap numberIn (sym h ∙ e)))
+    others-told n (code-overlaps-table g o m e) h = inr (inr (ap numberIn (sym h ∙ e)))
     others-told n (is-read g o m p ws e) h = absurd (never (sym h ∙ e))
 
 pub refuses-exactly : RefusesExactly
@@ -128,7 +128,7 @@ refuses-exactly P text =
     record {
       line = λ k n. (line-told P ls r k n o, line-given P ls r k n o);
       is23 = (count-told P ls r o, count-given P ls r o);
-      is11 = (order-told P ls r o, order-given P ls r o);
-      is12 = (meeting-told P ls r o, meeting-given P ls r o);
+      is11 = (invalid-told P ls r o, invalid-given P ls r o);
+      is12 = (overlap-told P ls r o, overlap-given P ls r o);
       others = λ n. others-told P ls r n o;
     }

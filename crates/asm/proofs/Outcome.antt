@@ -22,18 +22,18 @@ use Rattle.grammar.specs.Grammar.{readLine}
 use Rattle.asm.specs.Places.{lineKindAt}
 use Rattle.asm.specs.PlanLines.{planOf, enginePlanOf}
 use Rattle.asm.specs.Reading.{Sheet, program, refused-at, ranged, closed, withValues, withWord, readWordLine, readWords, readPlans, readSheet}
-use Rattle.asm.specs.Conditions.{Line, whole, cut, linesIn, linesOf, planIn, plansIn, planSaid, refusalOf, numberAt, lineCount, GoodTo, FirstBad, PlanOrdered, PlanApart, GoodLines}
+use Rattle.asm.specs.Conditions.{Line, whole, cut, linesIn, linesOf, planIn, plansIn, planSaid, refusalOf, numberAt, lineCount, GoodTo, FirstBad, PlanValid, PlanDisjoint, GoodLines}
 use Rattle.asm.proofs.Reached.{drop-none, drop-within, Reached, plan-number, word-number, next, first-bad}
-use Rattle.asm.proofs.Ranges.{Ranged, fine, unordered, meeting, ranged-cases}
+use Rattle.asm.proofs.Ranges.{Ranged, fine, not-valid, not-disjoint, ranged-cases}
 use Rattle.asm.proofs.Proper.{Proper, line-proper}
 
 -- A first bad line, too few or too many lines, 11, 12, or none of these.
 pub data Outcome (P : Profile) (ls : List Line) (r : Sheet) : Type 0 where
   bad : (k n : ℕ) → FirstBad P ls k n → r ≡ refused-at n (k + 1) → Outcome P ls r
   miscounted : GoodTo P ls (lineCount P) → (length ls ≡ lineCount P → ⊥) → r ≡ refused-at 23 0 → Outcome P ls r
-  out-of-order : GoodLines P ls → (PlanOrdered P (planSaid P ls) → ⊥) → r ≡ refused-at 11 0 → Outcome P ls r
-  code-meets-table : GoodLines P ls → PlanOrdered P (planSaid P ls) → (PlanApart P (planSaid P ls) → ⊥) → r ≡ refused-at 12 0 → Outcome P ls r
-  is-read : GoodLines P ls → PlanOrdered P (planSaid P ls) → PlanApart P (planSaid P ls) → (p : Plan) (ws : List ℕ) → r ≡ program p ws → Outcome P ls r
+  invalid-range : GoodLines P ls → (PlanValid P (planSaid P ls) → ⊥) → r ≡ refused-at 11 0 → Outcome P ls r
+  code-overlaps-table : GoodLines P ls → PlanValid P (planSaid P ls) → (PlanDisjoint P (planSaid P ls) → ⊥) → r ≡ refused-at 12 0 → Outcome P ls r
+  is-read : GoodLines P ls → PlanValid P (planSaid P ls) → PlanDisjoint P (planSaid P ls) → (p : Plan) (ws : List ℕ) → r ≡ program p ws → Outcome P ls r
 
 module _ (P : Profile) (ls : List Line) where
   -- a line has to follow, and none does
@@ -58,8 +58,8 @@ module _ (P : Profile) (ls : List Line) where
   -- all lines are good: the plan's ranges decide
   ranged-outcome : (n : ℕ) (ws : List ℕ) → GoodLines P ls → Ranged P (planSaid P ls) n → Outcome P ls (ranged n (planSaid P ls) ws)
   ranged-outcome n ws g (fine o m e) = is-read g o m (planSaid P ls) ws (ap (λ (k : ℕ). ranged k (planSaid P ls) ws) e)
-  ranged-outcome n ws g (unordered o e) = out-of-order g o (ap (λ (k : ℕ). ranged k (planSaid P ls) ws) e)
-  ranged-outcome n ws g (meeting o m e) = code-meets-table g o m (ap (λ (k : ℕ). ranged k (planSaid P ls) ws) e)
+  ranged-outcome n ws g (not-valid o e) = invalid-range g o (ap (λ (k : ℕ). ranged k (planSaid P ls) ws) e)
+  ranged-outcome n ws g (not-disjoint o m e) = code-overlaps-table g o m (ap (λ (k : ℕ). ranged k (planSaid P ls) ws) e)
 
   -- the last word has been read
   closed-outcome : (j : ℕ) (ws s : List ℕ) (ps : List (List ℕ)) → j ≡ lineCount P → Reached P ls j (s ∷ ps)

@@ -12,8 +12,8 @@ use Rattle.word.specs.Field.{address, inside, rangesOf}
 use Rattle.word.specs.Steps.{addressAt}
 use Rattle.word.specs.declared.Address.{Address}
 use Rattle.plan.specs.declared.EnginePlan.{EnginePlan}
-use Rattle.plan.specs.declared.EnginePlan.the-variants.{Unused, Code, CodeAndTable}
-use Rattle.plan.specs.Conditions.{Ordered, InOrder}
+use Rattle.plan.specs.declared.EnginePlan.the-variants.{Unused, CodeOnly, CodeAndTable}
+use Rattle.plan.specs.Conditions.{ValidRange, ValidRanges}
 use Rattle.grammar.specs.Form.{Pair}
 use Rattle.grammar.specs.Grammar.{asks, _within_, planForm}
 use Rattle.grammar.specs.Theorems.{fitsForm}
@@ -23,7 +23,7 @@ use Rattle.asm.proofs.Fits.{no-values, number-values, number-fits, deci
 -- the plan that a plan's values stand for is that plan
 pub plan-said : (i : ℕ) (q : EnginePlan) → enginePlanOf (planValues i q) ≡ q
 plan-said i Unused = refl
-plan-said i (Code f l) = refl
+plan-said i (CodeOnly f l) = refl
 plan-said i (CodeAndTable f l t b) = refl
 
 -- the form of a plan line, from its end on
@@ -54,7 +54,7 @@ module _ (P : Profile) (i : ℕ) where
   table-said : (f l : ℕ) (ns : List ℕ) → fitsForm (table P) ns ≡ true → Said (i ∷ 0 ∷ f ∷ l ∷ ns)
   table-said f l ns h =
       ⊎-elim
-      (λ e. (Code (addressAt f) (addressAt l), ap (λ (xs : List ℕ). i ∷ 0 ∷ f ∷ l ∷ xs) e))
+      (λ e. (CodeOnly (addressAt f) (addressAt l), ap (λ (xs : List ℕ). i ∷ 0 ∷ f ∷ l ∷ xs) e))
       (λ y. let r = top-said f l (y .0) (y .2) in (r .0, ap (λ (xs : List ℕ). i ∷ 0 ∷ f ∷ l ∷ xs) (y .1) ∙ r .1))
       (decision-values (ascii "table") (top P) ns h)
 
@@ -92,7 +92,7 @@ address-inside LP5523 a h = (omega arith, inside-upto 95 (a .0) (omega arith))
 
 module _ (P : Profile) (i : ℕ) where
   -- two addresses in order, before values that fit
-  range-fits : (j k : String) (fs : List Pair) (a b : Address) (ns : List ℕ) → Ordered P a b → fitsForm fs ns ≡ true
+  range-fits : (j k : String) (fs : List Pair) (a b : Address) (ns : List ℕ) → ValidRange P a b → fitsForm fs ns ≡ true
       → fitsForm (_within_ P j address ∷ _within_ P k address ∷ fs) (a .0 ∷ b .0 ∷ ns) ≡ true
   range-fits j k fs a b ns o h =
       let x = address-inside P a (omega (arith, o .0, o .1)) in
@@ -104,10 +104,10 @@ module _ (P : Profile) (i : ℕ) where
   unfolding planForm
   engine-fits ns small h = number-fits (ascii "engine") (asks "use" ∷ code P) (i to i ∷ []) i ns small (inside-itself i) h
 
-  pub plan-fits : (q : EnginePlan) → i ≤ 65535 → InOrder P q → fitsForm (planForm P i) (planValues i q) ≡ true
+  pub plan-fits : (q : EnginePlan) → i ≤ 65535 → ValidRanges P q → fitsForm (planForm P i) (planValues i q) ≡ true
   unfolding fitsForm
   plan-fits Unused small o = engine-fits (1 ∷ []) small refl
-  plan-fits (Code f l) small o =
+  plan-fits (CodeOnly f l) small o =
       engine-fits (0 ∷ f .0 ∷ l .0 ∷ 1 ∷ []) small (range-fits "first" "last" (table P) f l (1 ∷ []) o refl)
   plan-fits (CodeAndTable f l t b) small o =
       engine-fits (0 ∷ f .0 ∷ l .0 ∷ 0 ∷ t .0 ∷ b .0 ∷ []) small

@@ -4,7 +4,7 @@ use mathlib.Core.List.{List}
 use mathlib.Core.Path.{_≡_, ap, _∙_}
 use Rattle.word.specs.Profile.{Profile}
 use Rattle.plan.specs.declared.EnginePlan.{EnginePlan}
-use Rattle.plan.specs.Conditions.{InOrder}
+use Rattle.plan.specs.Conditions.{ValidRanges}
 use Rattle.grammar.specs.declared.LineKind.the-variants.{Plan}
 use Rattle.grammar.specs.Form.{values}
 use Rattle.grammar.specs.Grammar.{readLine, writeLine}
@@ -19,6 +19,6 @@ module _ (P : Profile) (i : ℕ) where
   plan-line-again line ns e =
       ap (writeLine P (Plan i)) (values-again P i ns (read-fits P (Plan i) line ns e)) ∙ read-writes P (Plan i) line ns e
 
-  pub plan-line-back : (q : EnginePlan) → i ≤ 65535 → InOrder P q → readLine P (Plan i) (writeLine P (Plan i) (planValues i q)) ≡ values (planValues i q)
+  pub plan-line-back : (q : EnginePlan) → i ≤ 65535 → ValidRanges P q → readLine P (Plan i) (writeLine P (Plan i) (planValues i q)) ≡ values (planValues i q)
   unfolding fitsLine
   plan-line-back q small o = written-reads P (Plan i) (planValues i q) (plan-fits P i q small o)

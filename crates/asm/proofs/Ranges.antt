@@ -7,18 +7,18 @@ use Rattle.laws.proofs.Tests.{by-test}
 use Rattle.word.specs.Profile.{Profile}
 use Rattle.plan.specs.declared.Plan.{Plan}
 use Rattle.plan.specs.declared.Verdict.{Verdict}
-use Rattle.plan.specs.declared.Verdict.the-variants.{OutOfOrder, CodeMeetsTable}
+use Rattle.plan.specs.declared.Verdict.the-variants.{InvalidRange, CodeOverlapsTable}
 use Rattle.plan.specs.Verdict.{reportOf}
 use Rattle.plan.specs.Tests.{holds}
 use Rattle.plan.specs.Check.{engineNumbers, firstFailing, checkRangesOf}
 use Rattle.plan.proofs.First.{allHold}
-use Rattle.asm.specs.Conditions.{PlanOrdered, PlanApart}
-use Rattle.asm.proofs.Writable.{all-met, orders-met, meetings-met, ranges-exactly}
+use Rattle.asm.specs.Conditions.{PlanValid, PlanDisjoint}
+use Rattle.asm.proofs.Writable.{all-met, valid-met, disjoint-met, ranges-exactly}
 
 pub data Ranged (P : Profile) (p : Plan) (n : ℕ) : Type 0 where
-  fine : PlanOrdered P p → PlanApart P p → n ≡ 0 → Ranged P p n
-  unordered : (PlanOrdered P p → ⊥) → n ≡ 11 → Ranged P p n
-  meeting : PlanOrdered P p → (PlanApart P p → ⊥) → n ≡ 12 → Ranged P p n
+  fine : PlanValid P p → PlanDisjoint P p → n ≡ 0 → Ranged P p n
+  not-valid : (PlanValid P p → ⊥) → n ≡ 11 → Ranged P p n
+  not-disjoint : PlanValid P p → (PlanDisjoint P p → ⊥) → n ≡ 12 → Ranged P p n
 
 module _ (f : Verdict → Bool) where
   -- where all of a list hold, the next one decides
@@ -44,11 +44,11 @@ module _ (f : Verdict → Bool) where
       go false r h = (x, refl)
 
 module _ (P : Profile) (p : Plan) where
-  abbrev orders : List Verdict
-  orders = map OutOfOrder (engineNumbers P)
+  abbrev invalid : List Verdict
+  invalid = map InvalidRange (engineNumbers P)
 
-  abbrev meetings : List Verdict
-  meetings = map CodeMeetsTable (engineNumbers P)
+  abbrev overlapping : List Verdict
+  overlapping = map CodeOverlapsTable (engineNumbers P)
 
   abbrev met : List Verdict → Bool
   met = allHold (holds P p [])
@@ -56,26 +56,26 @@ module _ (P : Profile) (p : Plan) where
   abbrev numberOf : Verdict → ℕ
   numberOf v = reportOf v .number
 
-  ordered-refuted : met orders ≡ false → PlanOrdered P p → ⊥
-  ordered-refuted h o = true≢false (sym (all-met P p [] orders .1 (orders-met P p [] .1 o)) ∙ h)
+  valid-refuted : met invalid ≡ false → PlanValid P p → ⊥
+  valid-refuted h o = true≢false (sym (all-met P p [] invalid .1 (valid-met P p [] .1 o)) ∙ h)
 
-  apart-refuted : met meetings ≡ false → PlanApart P p → ⊥
-  apart-refuted h o = true≢false (sym (all-met P p [] meetings .1 (meetings-met P p [] .1 o)) ∙ h)
+  disjoint-refuted : met overlapping ≡ false → PlanDisjoint P p → ⊥
+  disjoint-refuted h o = true≢false (sym (all-met P p [] overlapping .1 (disjoint-met P p [] .1 o)) ∙ h)
 
   pub ranged-cases : Ranged P p (reportOf (checkRangesOf P p) .number)
   unfolding checkRangesOf
   ranged-cases =
-      by-test (met orders)
+      by-test (met invalid)
       (λ h.
-      let o : PlanOrdered P p = orders-met P p [] .0 (all-met P p [] orders .0 h) in
-      by-test (met meetings)
+      let o : PlanValid P p = valid-met P p [] .0 (all-met P p [] invalid .0 h) in
+      by-test (met overlapping)
       (λ k.
-      let m : PlanApart P p = meetings-met P p [] .0 (all-met P p [] meetings .0 k) in
+      let m : PlanDisjoint P p = disjoint-met P p [] .0 (all-met P p [] overlapping .0 k) in
       fine o m (ap numberOf (ranges-exactly P p .1 (o, m))))
       (λ k.
-      let r = first-among (holds P p []) CodeMeetsTable (engineNumbers P) [] k in
-      meeting o (apart-refuted k)
-      (ap numberOf (first-later (holds P p []) orders meetings h ∙ ap (firstFailing (holds P p [])) (sym (append-nil meetings)) ∙ r .1))))
+      let r = first-among (holds P p []) CodeOverlapsTable (engineNumbers P) [] k in
+      not-disjoint o (disjoint-refuted k)
+      (ap numberOf (first-later (holds P p []) invalid overlapping h ∙ ap (firstFailing (holds P p [])) (sym (append-nil overlapping)) ∙ r .1))))
       (λ h.
-      let r = first-among (holds P p []) OutOfOrder (engineNumbers P) meetings h in
-      unordered (ordered-refuted h) (ap numberOf (r .1)))
+      let r = first-among (holds P p []) InvalidRange (engineNumbers P) overlapping h in
+      not-valid (valid-refuted h) (ap numberOf (r .1)))

@@ -12,12 +12,12 @@ use Rattle.text.specs.Bytes.{lineFeed, split}
 use Rattle.text.proofs.Theorems.{joins-split}
 use Rattle.word.specs.Profile.{Profile, LP5523, wordsOf, enginesOf}
 use Rattle.plan.specs.declared.EnginePlan.{EnginePlan}
-use Rattle.plan.specs.declared.EnginePlan.the-variants.{Unused, Code, CodeAndTable}
+use Rattle.plan.specs.declared.EnginePlan.the-variants.{Unused, CodeOnly, CodeAndTable}
 use Rattle.plan.specs.declared.Plan.{Plan}
 use Rattle.plan.specs.declared.Verdict.{Verdict}
 use Rattle.plan.specs.declared.Verdict.the-variants.{Accept}
 use Rattle.plan.specs.Ranges.{enginePlans, planAt, InCode}
-use Rattle.plan.specs.Conditions.{InOrder}
+use Rattle.plan.specs.Conditions.{ValidRanges}
 use Rattle.plan.proofs.Laws.{is-accept}
 use Rattle.op_lines.proofs.Theorems.{line-again, code-again, reads-defined}
 use Rattle.asm.specs.declared.Disassembled.{Disassembled}
@@ -35,9 +35,9 @@ use Rattle.asm.proofs.Again.{DefinedAt, SheetRead, plans-read}
 use Rattle.asm.proofs.Back.{BackAt, Ready, plans-back}
 
 -- a code address in order is one of the memory
-code-below : (P : Profile) (q : EnginePlan) (a : ℕ) → InOrder P q → InCode q a → a < wordsOf P
+code-below : (P : Profile) (q : EnginePlan) (a : ℕ) → ValidRanges P q → InCode q a → a < wordsOf P
 code-below P Unused a o c = absurd c
-code-below P (Code f l) a o c = omega (arith, o .1, c .1)
+code-below P (CodeOnly f l) a o c = omega (arith, o .1, c .1)
 code-below P (CodeAndTable f l t b) a o c = omega (arith, o .0 .1, c .1)
 
 -- as many plans as engines make a plan, and a plan has as many
@@ -54,7 +54,7 @@ plan-of LP5523 p = refl
 plans-count : (P : Profile) (p : Plan) → (length (enginePlans P p) ≡ enginesOf P) × (enginesOf P < 65536)
 plans-count LP5523 p = (refl, omega arith)
 
-ready : (P : Profile) (p : Plan) → ((i : ℕ) → InOrder P (planAt P p i)) → Ready P (enginePlans P p)
+ready : (P : Profile) (p : Plan) → ((i : ℕ) → ValidRanges P (planAt P p i)) → Ready P (enginePlans P p)
 ready LP5523 p o = (o 1, (o 2, (o 3, tt)))
 
 -- ---- the answers
@@ -102,8 +102,8 @@ reads-sound P text image p words e =
     let o = ranges-exactly P p .0 (r .ranges) in
     record {
       words = r .count;
-      ordered = o .0;
-      apart = o .1;
+      validRanges = o .0;
+      disjoint = o .1;
       defined = λ i a c.
           let l = code-below P (planAt P p i) a (o .0 i) c in
           each-at (DefinedAt P p) image 0 a a (omega arith) (r .codes) (omega (arith, r .count)) (code-kind P p a i c);
@@ -135,8 +135,8 @@ pub program-again : ProgramAgain
 unfolding assembleOf readSheet sheetOf
 program-again P image p room n small e =
     let s = writable-exactly P p image .0 (disassembled P image p room n e) in
-    let ranges = ranges-exactly P p .1 (s .ordered, s .apart) in
+    let ranges = ranges-exactly P p .1 (s .validRanges, s .disjoint) in
     let back = words-back P image p small s in
     rw (eq-eqb (wordsOf P) (wordsOf P) refl)
     (subst (λ (n : ℕ). readPlans P n 1 [] (split lineFeed (sheetOf P p image)) ≡ program p image) (plans-count P p .0)
-    (plans-back P p ranges image (s .words) back (enginePlans P p) 1 [] (omega (arith, plans-count P p .0, plans-count P p .1)) (ready P p (s .ordered)) (plan-of P p)))
+    (plans-back P p ranges image (s .words) back (enginePlans P p) 1 [] (omega (arith, plans-count P p .0, plans-count P p .1)) (ready P p (s .validRanges)) (plan-of P p)))

@@ -9,10 +9,10 @@ use Rattle.word.specs.Steps.{addressAt}
 use Rattle.plan.specs.declared.EnginePlan.{EnginePlan}
 use Rattle.plan.specs.declared.Plan.{Plan}
 use Rattle.plan.specs.declared.Verdict.{Verdict}
-use Rattle.plan.specs.declared.Verdict.the-variants.{Accept, OutOfOrder, CodeMeetsTable, UndefinedWord}
+use Rattle.plan.specs.declared.Verdict.the-variants.{Accept, InvalidRange, CodeOverlapsTable, UndefinedWord}
 use Rattle.plan.specs.Ranges.{planAt, InCode, codeAddresses}
 use Rattle.word.specs.Decode.{wordAt}
-use Rattle.plan.specs.Conditions.{InOrder, Apart, Defined, AllIn, Condition}
+use Rattle.plan.specs.Conditions.{ValidRanges, CodeDisjoint, Defined, AllIn, Condition}
 use Rattle.plan.specs.Tests.{holds}
 use Rattle.plan.specs.Check.{engineNumbers, joined, firstFailing, checkRangesOf}
 use Rattle.plan.specs.Theorems.{AllOf}
@@ -40,16 +40,16 @@ module _ (P : Profile) (p : Plan) (image : List ℕ) where
   none-fails vs = Iff·trans (first-all (holds P p image) refl vs, first-none (holds P p image) vs) (all-met vs)
 
   -- 11 and 12, of all engines
-  pub orders-met : Met (map OutOfOrder (engineNumbers P)) ↔ ((i : ℕ) → Condition P p image (OutOfOrder i))
-  orders-met = (
-    λ h. engine-all (InOrder P) tt P p (met-map (Condition P p image) OutOfOrder (engineNumbers P) .0 h),
-    λ h. met-map (Condition P p image) OutOfOrder (engineNumbers P) .1 (all-given h (engineNumbers P)),
+  pub valid-met : Met (map InvalidRange (engineNumbers P)) ↔ ((i : ℕ) → Condition P p image (InvalidRange i))
+  valid-met = (
+    λ h. engine-all (ValidRanges P) tt P p (met-map (Condition P p image) InvalidRange (engineNumbers P) .0 h),
+    λ h. met-map (Condition P p image) InvalidRange (engineNumbers P) .1 (all-given h (engineNumbers P)),
   )
 
-  pub meetings-met : Met (map CodeMeetsTable (engineNumbers P)) ↔ ((i : ℕ) → Condition P p image (CodeMeetsTable i))
-  meetings-met = (
-    λ h. engine-all (Apart P p) (λ i a c. absurd c) P p (met-map (Condition P p image) CodeMeetsTable (engineNumbers P) .0 h),
-    λ h. met-map (Condition P p image) CodeMeetsTable (engineNumbers P) .1 (all-given h (engineNumbers P)),
+  pub disjoint-met : Met (map CodeOverlapsTable (engineNumbers P)) ↔ ((i : ℕ) → Condition P p image (CodeOverlapsTable i))
+  disjoint-met = (
+    λ h. engine-all (CodeDisjoint P p) (λ i a c. absurd c) P p (met-map (Condition P p image) CodeOverlapsTable (engineNumbers P) .0 h),
+    λ h. met-map (Condition P p image) CodeOverlapsTable (engineNumbers P) .1 (all-given h (engineNumbers P)),
   )
 
   -- 13, of one engine and of all
@@ -74,11 +74,11 @@ module _ (P : Profile) (p : Plan) (image : List ℕ) where
       each : Met (joined (undefinedAt p P) (engineNumbers P)) ↔ AllIn (λ i. Met (undefinedAt p P i)) (engineNumbers P)
       each = met-joined (Condition P p image) (undefinedAt p P) (engineNumbers P)
 
-  abbrev orders : List Verdict
-  orders = map OutOfOrder (engineNumbers P)
+  abbrev invalid : List Verdict
+  invalid = map InvalidRange (engineNumbers P)
 
-  abbrev meetings : List Verdict
-  meetings = map CodeMeetsTable (engineNumbers P)
+  abbrev overlapping : List Verdict
+  overlapping = map CodeOverlapsTable (engineNumbers P)
 
   abbrev words : List Verdict
   words = joined (undefinedAt p P) (engineNumbers P)
@@ -86,13 +86,13 @@ module _ (P : Profile) (p : Plan) (image : List ℕ) where
   sound-met : Met (objectionsTo P p) ↔ Sound P p image
   sound-met = (
     λ h.
-        let s = met-append (Condition P p image) (orders ++ meetings) words .0 (h .1) in
-        let t = met-append (Condition P p image) orders meetings .0 (s .0) in
-        record { words = h .0; ordered = orders-met .0 (t .0); apart = meetings-met .0 (t .1); defined = engines-defined .0 (s .1) },
+        let s = met-append (Condition P p image) (invalid ++ overlapping) words .0 (h .1) in
+        let t = met-append (Condition P p image) invalid overlapping .0 (s .0) in
+        record { words = h .0; validRanges = valid-met .0 (t .0); disjoint = disjoint-met .0 (t .1); defined = engines-defined .0 (s .1) },
     λ s. (
       s .words,
-      met-append (Condition P p image) (orders ++ meetings) words .1 (
-        met-append (Condition P p image) orders meetings .1 (orders-met .1 (s .ordered), meetings-met .1 (s .apart)),
+      met-append (Condition P p image) (invalid ++ overlapping) words .1 (
+        met-append (Condition P p image) invalid overlapping .1 (valid-met .1 (s .validRanges), disjoint-met .1 (s .disjoint)),
         engines-defined .1 (s .defined),
       ),
     ),
@@ -104,12 +104,12 @@ module _ (P : Profile) (p : Plan) (image : List ℕ) where
 
 -- 11 and 12 by themselves, whatever the image
 pub ranges-exactly : (P : Profile) (p : Plan)
-    → (checkRangesOf P p ≡ Accept) ↔ (((i : ℕ) → Condition P p [] (OutOfOrder i)) × ((i : ℕ) → Condition P p [] (CodeMeetsTable i)))
+    → (checkRangesOf P p ≡ Accept) ↔ (((i : ℕ) → Condition P p [] (InvalidRange i)) × ((i : ℕ) → Condition P p [] (CodeOverlapsTable i)))
 unfolding checkRangesOf
 ranges-exactly P p =
-    Iff·trans (none-fails P p [] (orders P p [] ++ meetings P p [])) (
+    Iff·trans (none-fails P p [] (invalid P p [] ++ overlapping P p [])) (
       λ h.
-          let t = met-append (Condition P p []) (orders P p []) (meetings P p []) .0 h in
-          (orders-met P p [] .0 (t .0), meetings-met P p [] .0 (t .1)),
-      λ h. met-append (Condition P p []) (orders P p []) (meetings P p []) .1 (orders-met P p [] .1 (h .0), meetings-met P p [] .1 (h .1)),
+          let t = met-append (Condition P p []) (invalid P p []) (overlapping P p []) .0 h in
+          (valid-met P p [] .0 (t .0), disjoint-met P p [] .0 (t .1)),
+      λ h. met-append (Condition P p []) (invalid P p []) (overlapping P p []) .1 (valid-met P p [] .1 (h .0), disjoint-met P p [] .1 (h .1)),
     )

@@ -4,7 +4,7 @@ use mathlib.Core.List.{List, []}
 use Rattle.plan.specs.declared.Report.{Report}
 use Rattle.plan.specs.Verdict.{report, reportOf}
 use Rattle.asm.specs.declared.Assembled.{Assembled}
-use Rattle.asm.specs.declared.Assembled.the-variants.{Program, WrongLength, Malformed, UnknownOp, OutsideField, WrongLineCount, OutOfOrder, CodeMeetsTable}
+use Rattle.asm.specs.declared.Assembled.the-variants.{Program, WrongLength, Malformed, UnknownOp, OutsideField, WrongLineCount, InvalidRange, CodeOverlapsTable}
 use Rattle.asm.specs.declared.LineReport.{LineReport}
 use Rattle.asm.specs.declared.Disassembled.{Disassembled}
 use Rattle.asm.specs.declared.Disassembled.the-variants.{Length, Refused, TooShort}
@@ -18,8 +18,8 @@ readingOf (Malformed l) ws = refused-at 20 l
 readingOf (UnknownOp l) ws = refused-at 21 l
 readingOf (OutsideField l) ws = refused-at 22 l
 readingOf WrongLineCount ws = refused-at 23 0
-readingOf OutOfOrder ws = refused-at 11 0
-readingOf CodeMeetsTable ws = refused-at 12 0
+readingOf InvalidRange ws = refused-at 11 0
+readingOf CodeOverlapsTable ws = refused-at 12 0
 
 -- The number and the line in it, zeros for success.
 abbrev pub numberIn : Sheet → ℕ

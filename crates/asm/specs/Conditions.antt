@@ -11,7 +11,7 @@ use Rattle.word.specs.Profile.{Profile, wordsOf, enginesOf}
 use Rattle.plan.specs.declared.EnginePlan.{EnginePlan}
 use Rattle.plan.specs.declared.EnginePlan.the-variants.{Unused}
 use Rattle.plan.specs.declared.Plan.{Plan}
-use Rattle.plan.specs.declared.Verdict.the-variants.{OutOfOrder, CodeMeetsTable}
+use Rattle.plan.specs.declared.Verdict.the-variants.{InvalidRange, CodeOverlapsTable}
 use Rattle.plan.specs.Conditions.{Condition}
 use Rattle.grammar.specs.declared.LineKind.{LineKind}
 use Rattle.grammar.specs.declared.LineKind.the-variants as kind
@@ -91,11 +91,11 @@ pub record FirstBad (P : Profile) (ls : List Line) (k n : ℕ) : Type 0 where
   pub refusal : n ≡ 0 → ⊥
 
 -- Not 11, and not 12.
-abbrev pub PlanOrdered : Profile → Plan → Type 0
-PlanOrdered P p = (i : ℕ) → Condition P p [] (OutOfOrder i)
+abbrev pub PlanValid : Profile → Plan → Type 0
+PlanValid P p = (i : ℕ) → Condition P p [] (InvalidRange i)
 
-abbrev pub PlanApart : Profile → Plan → Type 0
-PlanApart P p = (i : ℕ) → Condition P p [] (CodeMeetsTable i)
+abbrev pub PlanDisjoint : Profile → Plan → Type 0
+PlanDisjoint P p = (i : ℕ) → Condition P p [] (CodeOverlapsTable i)
 
 -- All lines are good, and there are as many as there have to be.
 abbrev pub GoodLines : Profile → List Line → Type 0

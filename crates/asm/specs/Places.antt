@@ -5,7 +5,7 @@ use mathlib.Core.Bool.{Bool, false, cond, _||_}
 use mathlib.Core.List.{List, [], _∷_}
 use Rattle.word.specs.Profile.{Profile, enginesOf}
 use Rattle.plan.specs.declared.EnginePlan.{EnginePlan}
-use Rattle.plan.specs.declared.EnginePlan.the-variants.{Unused, Code, CodeAndTable}
+use Rattle.plan.specs.declared.EnginePlan.the-variants.{Unused, CodeOnly, CodeAndTable}
 use Rattle.plan.specs.declared.Plan.{Plan}
 use Rattle.plan.specs.Ranges.{enginePlans}
 use Rattle.plan.specs.Tests.{inRange, inCode}
@@ -14,7 +14,7 @@ use Rattle.grammar.specs.declared.LineKind.the-variants.{Op, Row, Spare}
 
 abbrev pub inTable : EnginePlan → ℕ → Bool
 inTable Unused a = false
-inTable (Code f l) a = false
+inTable (CodeOnly f l) a = false
 inTable (CodeAndTable f l t b) a = inRange t b a
 
 abbrev pub anyHas : (EnginePlan → ℕ → Bool) → List EnginePlan → ℕ → Bool
@@ -34,5 +34,5 @@ unfoldable pub ownerAt : Profile → Plan → ℕ → ℕ
 ownerAt P p a = lowestWith inCode 1 (enginePlans P p) a (lowestWith inTable 1 (enginePlans P p) a 0)
 
 -- The line in which the word with an address stands: the plan lines come before the words, one for each engine, and lines are counted from 1.
-abbrev pub lineOf : Profile → ℕ → ℕ
-lineOf P a = enginesOf P + a + 1
+abbrev pub encodingOf : Profile → ℕ → ℕ
+encodingOf P a = enginesOf P + a + 1

@@ -7,7 +7,7 @@ use lib.ListN.{getD}
 use Rattle.word.specs.Profile.{Profile, LP5523}
 use Rattle.word.specs.Steps.{addressAt}
 use Rattle.plan.specs.declared.EnginePlan.{EnginePlan}
-use Rattle.plan.specs.declared.EnginePlan.the-variants.{Unused, Code, CodeAndTable}
+use Rattle.plan.specs.declared.EnginePlan.the-variants.{Unused, CodeOnly, CodeAndTable}
 use Rattle.plan.specs.declared.Plan.{Plan}
 
 -- The plan of the engines that a chip has.
@@ -22,11 +22,11 @@ enginePlanOf ns =
     (cond
     (eqb (getD ns 4 0) 0)
     (CodeAndTable (addressAt (getD ns 2 0)) (addressAt (getD ns 3 0)) (addressAt (getD ns 5 0)) (addressAt (getD ns 6 0)))
-    (Code (addressAt (getD ns 2 0)) (addressAt (getD ns 3 0))))
+    (CodeOnly (addressAt (getD ns 2 0)) (addressAt (getD ns 3 0))))
     Unused
 
 -- The values of engine i's line.
 abbrev pub planValues : ℕ → EnginePlan → List ℕ
 planValues i Unused = i ∷ 1 ∷ []
-planValues i (Code f l) = i ∷ 0 ∷ f .0 ∷ l .0 ∷ 1 ∷ []
+planValues i (CodeOnly f l) = i ∷ 0 ∷ f .0 ∷ l .0 ∷ 1 ∷ []
 planValues i (CodeAndTable f l t b) = i ∷ 0 ∷ f .0 ∷ l .0 ∷ 0 ∷ t .0 ∷ b .0 ∷ []

@@ -6,15 +6,15 @@ use mathlib.Core.Path.{_≡_}
 use lib.ListN.{length, getD}
 use Rattle.word.specs.Profile.{Profile, wordsOf, enginesOf}
 use Rattle.plan.specs.declared.Plan.{Plan}
-use Rattle.plan.specs.declared.Verdict.the-variants.{OutOfOrder, CodeMeetsTable, UndefinedWord}
+use Rattle.plan.specs.declared.Verdict.the-variants.{InvalidRange, CodeOverlapsTable, UndefinedWord}
 use Rattle.plan.specs.Ranges.{planAt, InCode}
 use Rattle.plan.specs.Conditions.{Condition}
 use Rattle.word.specs.Steps.{addressAt}
 use Rattle.asm.specs.declared.Disassembled.the-variants.{Length}
-use Rattle.asm.specs.Places.{lineKindAt, lineOf}
+use Rattle.asm.specs.Places.{lineKindAt, encodingOf}
 use Rattle.asm.specs.Reading.{program, refused-at, readSheet, assembleOf}
 use Rattle.asm.specs.Writing.{sheetOf, disassembleOf}
-use Rattle.asm.specs.Conditions.{cut, linesOf, planSaid, wordLineNumber, numberAt, FirstBad, lineCount, GoodTo, GoodLines, PlanOrdered, PlanApart}
+use Rattle.asm.specs.Conditions.{cut, linesOf, planSaid, wordLineNumber, numberAt, FirstBad, lineCount, GoodTo, GoodLines, PlanValid, PlanDisjoint}
 
 -- 1. A sheet that is read without refusal is written again as the same bytes, given room.
 abbrev pub SheetAgain : Type 0
@@ -32,10 +32,10 @@ ProgramAgain =
 pub record Exactly (P : Profile) (text : List ℕ) : Type 0 where
   pub line : (k n : ℕ) → (readSheet P text ≡ refused-at n (k + 1)) ↔ FirstBad P (linesOf text) k n
   pub is23 : (readSheet P text ≡ refused-at 23 0) ↔ (GoodTo P (linesOf text) (lineCount P) × (length (linesOf text) ≡ lineCount P → ⊥))
-  pub is11 : (readSheet P text ≡ refused-at 11 0) ↔ (GoodLines P (linesOf text) × (PlanOrdered P (planSaid P (linesOf text)) → ⊥))
+  pub is11 : (readSheet P text ≡ refused-at 11 0) ↔ (GoodLines P (linesOf text) × (PlanValid P (planSaid P (linesOf text)) → ⊥))
   pub is12 :
       (readSheet P text ≡ refused-at 12 0)
-      ↔ (GoodLines P (linesOf text) × PlanOrdered P (planSaid P (linesOf text)) × (PlanApart P (planSaid P (linesOf text)) → ⊥))
+      ↔ (GoodLines P (linesOf text) × PlanValid P (planSaid P (linesOf text)) × (PlanDisjoint P (planSaid P (linesOf text)) → ⊥))
   pub others : (n : ℕ) → readSheet P text ≡ refused-at n 0 → (n ≡ 23) ⊎ ((n ≡ 11) ⊎ (n ≡ 12))
 
 -- 3. The reader's refusals are exactly the paper's.
@@ -45,20 +45,20 @@ RefusesExactly = (P : Profile) (text : List ℕ) → Exactly P text
 -- 4. A sheet that is read satisfies 9, 11 and 12, and every code word in it is defined, so that 13 is not given either.
 pub record Sound (P : Profile) (p : Plan) (image : List ℕ) : Type 0 where
   pub words : length image ≡ wordsOf P
-  pub ordered : (i : ℕ) → Condition P p image (OutOfOrder i)
-  pub apart : (i : ℕ) → Condition P p image (CodeMeetsTable i)
+  pub validRanges : (i : ℕ) → Condition P p image (InvalidRange i)
+  pub disjoint : (i : ℕ) → Condition P p image (CodeOverlapsTable i)
   pub defined : (i a : ℕ) → InCode (planAt P p i) a → Condition P p image (UndefinedWord i (addressAt a))
 
 abbrev pub ReadsSound : Type 0
 ReadsSound = (P : Profile) (text image : List ℕ) (p : Plan) (words : ℕ) → assembleOf P words text ≡ program p image → Sound P p image
 
--- The word with address a stands in line lineOf P a, which has place enginesOf P + a, counted from 0: the reader judges that line by what
+-- The word with address a stands in line encodingOf P a, which has place enginesOf P + a, counted from 0: the reader judges that line by what
 -- stands at a, and refuses it by that line's number where it is the first bad one.
 pub record WordInLine (P : Profile) (text : List ℕ) (a : ℕ) : Type 0 where
   pub judged :
       numberAt P (linesOf text) (enginesOf P + a)
       ≡ wordLineNumber P (lineKindAt P (planSaid P (linesOf text)) a) (getD (linesOf text) (enginesOf P + a) (cut []))
-  pub refused : (n : ℕ) → (readSheet P text ≡ refused-at n (lineOf P a)) ↔ FirstBad P (linesOf text) (enginesOf P + a) n
+  pub refused : (n : ℕ) → (readSheet P text ≡ refused-at n (encodingOf P a)) ↔ FirstBad P (linesOf text) (enginesOf P + a) n
 
 abbrev pub WordsInLines : Type 0
 WordsInLines = (P : Profile) (text : List ℕ) (a : ℕ) → WordInLine P text a

@@ -12,7 +12,7 @@ use Rattle.word.specs.Steps.{addressAt}
 use Rattle.plan.specs.declared.EnginePlan.{EnginePlan}
 use Rattle.plan.specs.declared.Plan.{Plan}
 use Rattle.plan.specs.declared.Verdict.{Verdict}
-use Rattle.plan.specs.declared.Verdict.the-variants.{WrongLength, OutOfOrder, CodeMeetsTable, UndefinedWord}
+use Rattle.plan.specs.declared.Verdict.the-variants.{WrongLength, InvalidRange, CodeOverlapsTable, UndefinedWord}
 use Rattle.plan.specs.Ranges.{enginePlans, planAt, codeAddresses}
 use Rattle.plan.specs.Tests.{holds}
 use Rattle.plan.specs.Check.{engineNumbers, joined, firstFailing}
@@ -59,8 +59,8 @@ undefinedAt p P i = map (λ (a : ℕ). UndefinedWord i (addressAt a)) (codeAddre
 abbrev pub objectionsTo : Profile → Plan → List Verdict
 objectionsTo P p =
     WrongLength ∷
-    map OutOfOrder (engineNumbers P) ++
-    map CodeMeetsTable (engineNumbers P) ++
+    map InvalidRange (engineNumbers P) ++
+    map CodeOverlapsTable (engineNumbers P) ++
     joined (undefinedAt p P) (engineNumbers P)
 
 unfoldable pub writableOf : Profile → Plan → List ℕ → Verdict

@@ -16,8 +16,8 @@ pub enum Assembled {
     // not as many lines as plans and words
     WrongLineCount,
     // first above last, or top above bottom
-    OutOfOrder,
-    CodeMeetsTable,
+    InvalidRange,
+    CodeOverlapsTable,
 }
 
 // A refusal of the assembler: its number and line, zeros for success.

@@ -28,8 +28,8 @@ fn judged(plan: Plan) -> Assembled
     ensures { λ r. ⌜ ((ws : List ℕ) → readingOf r ws ≡ ranged (reportOf (checkRangesOf LP5523 plan) .number) plan ws) ⌝ }
 {
     match checker::check_ranges(plan) {
-        Verdict::OutOfOrder { engine: _ } => Assembled::OutOfOrder,
-        Verdict::CodeMeetsTable { engine: _ } => Assembled::CodeMeetsTable,
+        Verdict::InvalidRange { engine: _ } => Assembled::InvalidRange,
+        Verdict::CodeOverlapsTable { engine: _ } => Assembled::CodeOverlapsTable,
         _ => Assembled::Program(plan),
     }
 }

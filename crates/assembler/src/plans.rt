@@ -29,7 +29,7 @@ pub fn engine_plan(v: Values) -> EnginePlan
     let first = Address(v.c);
     let last = Address(v.d);
     if v.e != 0 {
-        return EnginePlan::Code { first, last };
+        return EnginePlan::CodeOnly { first, last };
     }
     EnginePlan::CodeAndTable {
         first,

@@ -22,7 +22,7 @@ pub fn engine_plan(n: Numbers) -> EnginePlan {
     let count = n.count;
     match count {
         0 => EnginePlan::Unused,
-        2 => EnginePlan::Code { first, last },
+        2 => EnginePlan::CodeOnly { first, last },
         _ => EnginePlan::CodeAndTable {
             first,
             last,

@@ -17,12 +17,12 @@ ghost use mathlib.Core.Bool.{true};
 ghost use mathlib.Core.Path.{_≡_};
 ghost use lib.ListN.{length};
 ghost use Rattle.word.specs.Profile.{LP5523};
-ghost use Rattle.plan.specs.Tests.{inOrder};
+ghost use Rattle.plan.specs.Tests.{validRanges};
 ghost use Rattle.plan.specs.Check.{checkOf};
 ghost use Rattle.plan.specs.internal.Passes.{engineVerdict, enginesVerdict};
 
 fn check_engine(q: EnginePlan, engine: u16, image: &[u16]) -> Verdict
-    requires { ⌜ (length (now image) ≡ 96) × (inOrder LP5523 q ≡ true) ⌝ }
+    requires { ⌜ (length (now image) ≡ 96) × (validRanges LP5523 q ≡ true) ⌝ }
     ensures { λ r. ⌜ r ≡ engineVerdict LP5523 q engine (now (image .entry)) ⌝ }
 {
     let verdict = check_code(q, engine, image);
@@ -33,7 +33,7 @@ fn check_engine(q: EnginePlan, engine: u16, image: &[u16]) -> Verdict
 }
 
 fn check_engines(plan: Plan, image: &[u16]) -> Verdict
-    requires { ⌜ (length (now image) ≡ 96) × (inOrder LP5523 (plan .engine1) ≡ true) × (inOrder LP5523 (plan .engine2) ≡ true) × (inOrder LP5523 (plan .engine3) ≡ true) ⌝ }
+    requires { ⌜ (length (now image) ≡ 96) × (validRanges LP5523 (plan .engine1) ≡ true) × (validRanges LP5523 (plan .engine2) ≡ true) × (validRanges LP5523 (plan .engine3) ≡ true) ⌝ }
     ensures { λ r. ⌜ r ≡ enginesVerdict LP5523 plan (now (image .entry)) ⌝ }
 {
     let q1 = plan.engine1;

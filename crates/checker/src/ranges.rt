@@ -1,10 +1,10 @@
 // 11 and 12: what can be said against a plan by itself.
-mod apart;
-mod order;
+mod overlap;
+mod valid;
 
 use crate::acceptance::is_accept;
-use crate::ranges::apart::check_apart;
-use crate::ranges::order::check_order;
+use crate::ranges::overlap::check_overlap;
+use crate::ranges::valid::check_valid;
 use plan::Plan;
 use plan::Verdict;
 ghost use mathlib.Core.Path.{_≡_};
@@ -15,9 +15,9 @@ ghost use Rattle.plan.specs.Check.{checkRangesOf};
 pub fn check_ranges(plan: Plan) -> Verdict
     ensures { λ r. ⌜ r ≡ checkRangesOf LP5523 plan ⌝ }
 {
-    let order = check_order(plan);
+    let order = check_valid(plan);
     if !is_accept(order) {
         return order;
     }
-    check_apart(plan)
+    check_overlap(plan)
 }

@@ -32,7 +32,7 @@ fn in_code(q: EnginePlan, at: u32) -> bool
 {
     match q {
         EnginePlan::Unused => false,
-        EnginePlan::Code { first, last } => in_range(first, last, at),
+        EnginePlan::CodeOnly { first, last } => in_range(first, last, at),
         EnginePlan::CodeAndTable {
             first,
             last,
@@ -48,7 +48,7 @@ fn first_of(q: EnginePlan) -> Address
 {
     match q {
         EnginePlan::Unused => Address(0),
-        EnginePlan::Code { first, last: _ } => first,
+        EnginePlan::CodeOnly { first, last: _ } => first,
         EnginePlan::CodeAndTable {
             first,
             last: _,

@@ -10,13 +10,13 @@ use Rattle.word.specs.Profile.{Profile, LP5523, upward}
 use Rattle.word.specs.Steps.{addressAt}
 use Rattle.word.specs.Classes.{isUndefined}
 use Rattle.plan.specs.declared.EnginePlan.{EnginePlan}
-use Rattle.plan.specs.declared.EnginePlan.the-variants.{Unused, Code, CodeAndTable}
+use Rattle.plan.specs.declared.EnginePlan.the-variants.{Unused, CodeOnly, CodeAndTable}
 use Rattle.plan.specs.declared.Plan.{Plan}
 use Rattle.plan.specs.declared.Verdict.{Verdict}
-use Rattle.plan.specs.declared.Verdict.the-variants.{Accept, WrongLength, OutOfOrder, CodeMeetsTable, UndefinedWord}
+use Rattle.plan.specs.declared.Verdict.the-variants.{Accept, WrongLength, InvalidRange, CodeOverlapsTable, UndefinedWord}
 use Rattle.plan.specs.Ranges.{planAt, codeAddresses}
 use Rattle.word.specs.Decode.{wordAt}
-use Rattle.plan.specs.Tests.{holds, inOrder}
+use Rattle.plan.specs.Tests.{holds, validRanges}
 use Rattle.plan.specs.Check.{engineNumbers, firstFailing, checkRangesOf}
 use Rattle.plan.specs.internal.Passes.{orElse}
 use Rattle.plan.proofs.Laws.{scan-refused, scan-passed, scan-end}
@@ -45,13 +45,13 @@ module _ (P : Profile) (i : ℕ) (image : List ℕ) (a l : ℕ) where
   defined-to h = scan-end _ a l h
 
 -- where 11 and 12 have passed, each engine is in order
-pub ranges-in-order : (p : Plan) → checkRangesOf LP5523 p ≡ Accept
-    → (inOrder LP5523 (p .engine1) ≡ true) × (inOrder LP5523 (p .engine2) ≡ true) × (inOrder LP5523 (p .engine3) ≡ true)
-ranges-in-order p h =
+pub ranges-valid : (p : Plan) → checkRangesOf LP5523 p ≡ Accept
+    → (validRanges LP5523 (p .engine1) ≡ true) × (validRanges LP5523 (p .engine2) ≡ true) × (validRanges LP5523 (p .engine3) ≡ true)
+ranges-valid p h =
     let o = ranges-exactly LP5523 p .0 h .0 in (
-      tests-exactly LP5523 p [] (OutOfOrder 1) .1 (o 1),
-      tests-exactly LP5523 p [] (OutOfOrder 2) .1 (o 2),
-      tests-exactly LP5523 p [] (OutOfOrder 3) .1 (o 3),
+      tests-exactly LP5523 p [] (InvalidRange 1) .1 (o 1),
+      tests-exactly LP5523 p [] (InvalidRange 2) .1 (o 2),
+      tests-exactly LP5523 p [] (InvalidRange 3) .1 (o 3),
     )
 
 module _ (P : Profile) (p : Plan) (image : List ℕ) (i : ℕ) where
@@ -67,12 +67,12 @@ module _ (P : Profile) (p : Plan) (image : List ℕ) (i : ℕ) where
   engine : (q : EnginePlan) → firstFailing (holds P p image) (map undefined (codeAddresses q)) ≡ engineDefined P i q image
   unfolding firstFailing engineDefined
   engine Unused = refl
-  engine (Code f l) = range (f .0) (l .0 + 1 - f .0)
+  engine (CodeOnly f l) = range (f .0) (l .0 + 1 - f .0)
   engine (CodeAndTable f l t b) = range (f .0) (l .0 + 1 - f .0)
 
 module _ (p : Plan) (image : List ℕ) where
   abbrev ranges : List Verdict
-  ranges = map OutOfOrder (engineNumbers LP5523) ++ map CodeMeetsTable (engineNumbers LP5523)
+  ranges = map InvalidRange (engineNumbers LP5523) ++ map CodeOverlapsTable (engineNumbers LP5523)
 
   abbrev words : ℕ → List Verdict
   words = undefinedAt p LP5523

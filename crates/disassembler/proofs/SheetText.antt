@@ -13,7 +13,7 @@ use Rattle.plan.specs.Verdict.{isAccept}
 use Rattle.text.specs.Bytes.{lineFeed}
 use Rattle.word.specs.Profile.{Profile, LP5523}
 use Rattle.plan.specs.declared.EnginePlan.{EnginePlan}
-use Rattle.plan.specs.declared.EnginePlan.the-variants.{Unused, Code, CodeAndTable}
+use Rattle.plan.specs.declared.EnginePlan.the-variants.{Unused, CodeOnly, CodeAndTable}
 use Rattle.plan.specs.declared.Plan.{Plan}
 use Rattle.plan.specs.declared.Verdict.{Verdict}
 use Rattle.plan.specs.declared.Verdict.the-variants.{Accept}
@@ -39,7 +39,7 @@ use Rattle.disassembler.specs.internal.Walks.{IsWordLine}
 pub plan-line : (i : ℕ) (q : EnginePlan) → writeLine LP5523 (kind.Plan i) (listOf (valuesOf (planValues i q))) ≡ writeLine LP5523 (kind.Plan i) (planValues i q)
 unfolding writeLine writeParts writeForm continued planForm listOf valuesOf
 plan-line i Unused = refl
-plan-line i (Code f l) = refl
+plan-line i (CodeOnly f l) = refl
 plan-line i (CodeAndTable f l t b) = refl
 
 -- nor those past a word

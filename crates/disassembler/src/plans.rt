@@ -32,7 +32,7 @@ fn plan_values(engine: u16, q: EnginePlan) -> Values
 {
     match q {
         EnginePlan::Unused => seven(engine, 1, 0, 0, 0, 0, 0),
-        EnginePlan::Code { first, last } => seven(engine, 0, first.0, last.0, 1, 0, 0),
+        EnginePlan::CodeOnly { first, last } => seven(engine, 0, first.0, last.0, 1, 0, 0),
         EnginePlan::CodeAndTable {
             first,
             last,

@@ -10,7 +10,7 @@ ghost use mathlib.Core.Path.{_≡_};
 ghost use Prim.Native.Nat.{_+_, _-_, _<_};
 ghost use lib.ListN.{length};
 ghost use Rattle.word.specs.Profile.{LP5523};
-ghost use Rattle.plan.specs.Tests.{inOrder};
+ghost use Rattle.plan.specs.Tests.{validRanges};
 ghost use Rattle.disassembler.specs.internal.Walks.{definedFrom, engineDefined, planDefined};
 
 // The first undefined word from `first` to `last`.
@@ -33,12 +33,12 @@ fn first_undefined(engine: u16, first: u16, last: u16, image: &[u16]) -> Verdict
 }
 
 fn of_engine(engine: u16, q: EnginePlan, image: &[u16]) -> Verdict
-    requires { ⌜ (length (now image) ≡ 96) × (inOrder LP5523 q ≡ true) ⌝ }
+    requires { ⌜ (length (now image) ≡ 96) × (validRanges LP5523 q ≡ true) ⌝ }
     ensures { λ r. ⌜ r ≡ engineDefined LP5523 engine q (now (image .entry)) ⌝ }
 {
     match q {
         EnginePlan::Unused => Verdict::Accept,
-        EnginePlan::Code { first, last } => first_undefined(engine, first.0, last.0, image),
+        EnginePlan::CodeOnly { first, last } => first_undefined(engine, first.0, last.0, image),
         EnginePlan::CodeAndTable {
             first,
             last,
@@ -50,7 +50,7 @@ fn of_engine(engine: u16, q: EnginePlan, image: &[u16]) -> Verdict
 
 // The first undefined word of the plan's code, engine by engine.
 pub(super) fn check_defined(plan: Plan, image: &[u16]) -> Verdict
-    requires { ⌜ (length (now image) ≡ 96) × (inOrder LP5523 (plan .engine1) ≡ true) × (inOrder LP5523 (plan .engine2) ≡ true) × (inOrder LP5523 (plan .engine3) ≡ true) ⌝ }
+    requires { ⌜ (length (now image) ≡ 96) × (validRanges LP5523 (plan .engine1) ≡ true) × (validRanges LP5523 (plan .engine2) ≡ true) × (validRanges LP5523 (plan .engine3) ≡ true) ⌝ }
     ensures { λ r. ⌜ r ≡ planDefined LP5523 plan (now (image .entry)) ⌝ }
 {
     let q1 = plan.engine1;

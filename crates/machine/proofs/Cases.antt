@@ -14,7 +14,7 @@ use Rattle.machine.specs.Turn.{beatOf, turn}
 use Rattle.machine.specs.Tick.{stopped, turns, tick}
 use Rattle.machine.specs.Registers.{registerAt}
 use Rattle.machine.specs.Burst.{bytesWritten, burstOf}
-use Rattle.machine.specs.Cases.{Line, AllHold, wordCases, beatCases, easyErrors, CasesHold}
+use Rattle.machine.specs.Cases.{Case, AllHold, wordCases, beatCases, easyErrors, CasesHold}
 
 word-cases-hold : AllHold wordCases
 unfolding decodeOf reading inside
@@ -28,7 +28,7 @@ easy-errors-hold : AllHold easyErrors
 unfolding decodeOf reading inside finish waits ramps holder outputAfter branches triggers receives pulsed stops begins beatOf turn stopped turns tick registerAt bytesWritten burstOf
 easy-errors-hold = (refl, (refl, (refl, (refl, (refl, (refl, (refl, (refl, (refl, (refl, (refl, (refl, (refl, (refl, (refl, (refl, (refl, (refl, (refl, (refl, (refl, (refl, (refl, (refl, (refl, (refl, (refl, tt)))))))))))))))))))))))))))
 
-all-append : (xs ys : List Line) → AllHold xs → AllHold ys → AllHold (xs ++ ys)
+all-append : (xs ys : List Case) → AllHold xs → AllHold ys → AllHold (xs ++ ys)
 all-append [] ys h k = k
 all-append (l ∷ ls) ys h k = (h .0, all-append ls ys (h .1) k)
 

@@ -12,47 +12,47 @@ use Rattle.word.specs.declared.Address.{Address}
 use Rattle.word.specs.declared.TableUse.the-variants.{StartAt, EndAt, RowAt}
 use Rattle.word.specs.declared.Word.{Word}
 use Rattle.plan.specs.declared.EnginePlan.{EnginePlan}
-use Rattle.plan.specs.declared.EnginePlan.the-variants.{Unused, Code, CodeAndTable}
+use Rattle.plan.specs.declared.EnginePlan.the-variants.{Unused, CodeOnly, CodeAndTable}
 use Rattle.plan.specs.declared.Plan.{Plan}
 use Rattle.plan.specs.Ranges.{planAt, firstOf, InCode}
 use Rattle.word.specs.Decode.{wordAt}
-use Rattle.plan.specs.Conditions.{InOrder, Defined, successorsOf, AllIn, UsesOwnTable, isStart, isEnd, OpensTable, Accepted}
+use Rattle.plan.specs.Conditions.{ValidRanges, Defined, successorsOf, AllIn, UsesOwnTable, isStart, isEnd, OpensTable, Accepted}
 
 -- An engine's plan as numbers; those that it doesn't have are 0.
 abbrev pub isUsed : EnginePlan → Bool
 isUsed Unused = false
-isUsed (Code f l) = true
+isUsed (CodeOnly f l) = true
 isUsed (CodeAndTable f l t b) = true
 
 abbrev pub hasTable : EnginePlan → Bool
 hasTable Unused = false
-hasTable (Code f l) = false
+hasTable (CodeOnly f l) = false
 hasTable (CodeAndTable f l t b) = true
 
 abbrev pub topOf : EnginePlan → ℕ
 topOf Unused = 0
-topOf (Code f l) = 0
+topOf (CodeOnly f l) = 0
 topOf (CodeAndTable f l t b) = t .0
 
 abbrev pub bottomOf : EnginePlan → ℕ
 bottomOf Unused = 0
-bottomOf (Code f l) = 0
+bottomOf (CodeOnly f l) = 0
 bottomOf (CodeAndTable f l t b) = b .0
 
 -- What condition 15 says of each use.
 pub start-top : (q : EnginePlan) (a : Address) → UsesOwnTable q (StartAt a) → a .0 ≡ topOf q
 start-top Unused a h = absurd h
-start-top (Code f l) a h = absurd h
+start-top (CodeOnly f l) a h = absurd h
 start-top (CodeAndTable f l t b) a h = h
 
 pub end-bottom : (q : EnginePlan) (a : Address) → UsesOwnTable q (EndAt a) → a .0 ≡ bottomOf q
 end-bottom Unused a h = absurd h
-end-bottom (Code f l) a h = absurd h
+end-bottom (CodeOnly f l) a h = absurd h
 end-bottom (CodeAndTable f l t b) a h = h
 
 pub row-inside : (q : EnginePlan) (a : Address) → UsesOwnTable q (RowAt a) → (topOf q ≤ a .0) × (a .0 ≤ bottomOf q)
 row-inside Unused a h = absurd h
-row-inside (Code f l) a h = absurd h
+row-inside (CodeOnly f l) a h = absurd h
 row-inside (CodeAndTable f l t b) a h = h
 
 -- A word of the set R.
@@ -71,10 +71,10 @@ pub record Closed (P : Profile) (image : List ℕ) (q : EnginePlan) (R : ℕ →
   pub starts : hasTable q ≡ true → isStart (tableUseOf (wordAt P image (firstOf q))) ≡ true
   pub bounds : hasTable q ≡ true → isEnd (tableUseOf (wordAt P image (firstOf q + 1))) ≡ true
 
-range-closed : (P : Profile) (image : List ℕ) (q : EnginePlan) → isUsed q ≡ true → InOrder P q → OpensTable P image q →
+range-closed : (P : Profile) (image : List ℕ) (q : EnginePlan) → isUsed q ≡ true → ValidRanges P q → OpensTable P image q →
     ((a : ℕ) → InCode q a → SoundWord q (InCode q) a (wordAt P image a)) → Closed P image q (InCode q)
 range-closed P image Unused u o t ws = absurd (false≢true u)
-range-closed P image (Code f l) u o t ws =
+range-closed P image (CodeOnly f l) u o t ws =
     record {
       begins = (le-refl (f .0), o .0);
       inside = λ a h. h;
@@ -100,5 +100,5 @@ range-closed P image (CodeAndTable f l t b) u o s ws =
 pub accepted-closed : (P : Profile) (p : Plan) (image : List ℕ) → Accepted P p image → (i : ℕ) → isUsed (planAt P p i) ≡ true →
     Closed P image (planAt P p i) (InCode (planAt P p i))
 accepted-closed P p image A i u =
-    range-closed P image (planAt P p i) u (A .inOrder i) (A .opensTable i)
+    range-closed P image (planAt P p i) u (A .validRanges i) (A .opensTable i)
     (λ a h. record { isDefined = A .defined i a h; successors = A .successors i a h; tableUse = A .tableUse i a h })

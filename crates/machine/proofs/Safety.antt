@@ -12,7 +12,7 @@ use Rattle.laws.proofs.Tests.{by-test, and-left, by-cond}
 use Rattle.word.specs.Profile.{Profile, wordsOf, enginesOf}
 use Rattle.word.specs.declared.Address.{Address}
 use Rattle.plan.specs.declared.EnginePlan.{EnginePlan}
-use Rattle.plan.specs.declared.EnginePlan.the-variants.{Unused, Code, CodeAndTable}
+use Rattle.plan.specs.declared.EnginePlan.the-variants.{Unused, CodeOnly, CodeAndTable}
 use Rattle.plan.specs.declared.Plan.{Plan}
 use Rattle.plan.specs.Ranges.{planAt, firstOf, InCode}
 use Rattle.word.specs.Decode.{wordAt}
@@ -83,14 +83,14 @@ pub record Invariant (P : Profile) (p : Plan) (image : List ℕ) (R : ℕ → �
 -- An engine that points as the invariant says points inside its table.
 points-inside : (q : EnginePlan) (f g : Bool) (k : EngineCore) → (hasTable q ≡ true → TableKept q f g k) → f ≡ true → g ≡ true → PointsInside q (k .table)
 points-inside Unused f g k T a b = tt
-points-inside (Code x l) f g k T a b = tt
+points-inside (CodeOnly x l) f g k T a b = tt
 points-inside (CodeAndTable x l t z) f g k T a b =
     record { isTop = T refl .points a .top; isBottom = T refl .bottom b; fromTop = T refl .points a .from; toBottom = T refl .points a .upto }
 
 -- An unused engine has no table to point outside of.
 no-table : (q : EnginePlan) (x : Engine) → isUsed q ≡ false → PointsInside q (x .table)
 no-table Unused x u = tt
-no-table (Code f l) x u = tt
+no-table (CodeOnly f l) x u = tt
 no-table (CodeAndTable f l t b) x u = absurd (true≢false u)
 
 -- A disabled engine doesn't fetch.
@@ -297,12 +297,12 @@ fresh P image q R e f C i L =
 
 used-kept : (P : Profile) (image : List ℕ) (q : EnginePlan) (R : ℕ → Type 0) (e : Engine) → Closed P image q R → isUsed q ≡ true → LoadedEngine q e → Kept P q image R false false (core e)
 used-kept P image Unused R e C u L = absurd (false≢true u)
-used-kept P image (Code f l) R e C u L = fresh P image (Code f l) R e f C refl L
+used-kept P image (CodeOnly f l) R e C u L = fresh P image (CodeOnly f l) R e f C refl L
 used-kept P image (CodeAndTable f l t b) R e C u L = fresh P image (CodeAndTable f l t b) R e f C refl L
 
 unused-disabled : (q : EnginePlan) (e : Engine) → isUsed q ≡ false → LoadedEngine q e → e .mode ≡ Disabled
 unused-disabled Unused e u L = L
-unused-disabled (Code f l) e u L = absurd (true≢false u)
+unused-disabled (CodeOnly f l) e u L = absurd (true≢false u)
 unused-disabled (CodeAndTable f l t b) e u L = absurd (true≢false u)
 
 pub loaded-kept : (P : Profile) (p : Plan) (image : List ℕ) (R : ℕ → ℕ → Type 0) → Sound P p image R → (m : Chip) → Loaded P p image m → Invariant P p image R (begun m)

@@ -31,13 +31,13 @@ use Rattle.machine.specs.Examples.{runningFrom, enabledChip}
 
 -- A line of the table: what the rules give, and what document 01 says that it is.
 infix 70 _is_
-pub data Line : Type 1 where
-  _is_ : {A : Type 0} → A → A → Line
+pub data Case : Type 1 where
+  _is_ : {A : Type 0} → A → A → Case
 
-abbrev pub Holds : Line → Type 0
+abbrev pub Holds : Case → Type 0
 Holds (x is y) = x ≡ y
 
-abbrev pub AllHold : List Line → Type 0
+abbrev pub AllHold : List Case → Type 0
 AllHold [] = Unit {0}
 AllHold (l ∷ ls) = Holds l × AllHold ls
 
@@ -103,7 +103,7 @@ abbrev pub pcsOf : ℕ → Chip → List ℕ
 pcsOf zero m = []
 pcsOf (suc n) m = let m′ = afterBeats 1 m in pcOf m′ ∷ pcsOf n m′
 
-abbrev pub wordCases : List Line
+abbrev pub wordCases : List Case
 wordCases =
     -- "9D01 selects output 1"
     decodeOf LP5523 0x9D01 is MuxSel 1 ∷
@@ -126,7 +126,7 @@ wordCases =
     -- "E010 undefined"
     decodeOf LP5523 0xE010 is Undefined ∷ []
 
-abbrev pub beatCases : List Line
+abbrev pub beatCases : List Case
 beatCases =
     -- "9D01 selects output 1": engine 1 holds D1, and nobody any other
     holdersOf (afterBeats 1 (engine1Alone freeEngine (0x9D01 ∷ []))) is (1 ∷ 0 ∷ 0 ∷ 0 ∷ 0 ∷ 0 ∷ 0 ∷ 0 ∷ 0 ∷ 0 ∷ []) ∷
@@ -198,7 +198,7 @@ modesWritten v e = engine1 (burstOf LP5523 0x01 (v ∷ []) (engine1Alone e []) .
 abbrev pub rampBy : ℕ → ℕ → Chip
 rampBy a b = fromLevel 5 (engine1Alone (withVariables a b (masked 1)) (0x8401 ∷ []))
 
-abbrev pub easyErrors : List Line
+abbrev pub easyErrors : List Case
 easyErrors =
     -- "taking a branch step as an address": from start 7, step 1 is at address 8, and its word is done next
     addressOf (engine1 (afterBeats 1 fromSeven) .start) (engine1 (afterBeats 1 fromSeven) .pc) is 8 ∷
@@ -243,7 +243,7 @@ easyErrors =
     words1 30 (rampBy 32 1) is 0 ∷
     words1 31 (rampBy 32 1) is 1 ∷ []
 
-abbrev pub cases : List Line
+abbrev pub cases : List Case
 cases = wordCases ++ (beatCases ++ easyErrors)
 
 abbrev pub CasesHold : Type 0

@@ -7,7 +7,7 @@ use lib.ListN.{getD}
 use Rattle.word.specs.Profile.{Profile, wordsOf}
 use Rattle.word.specs.declared.Address.{Address}
 use Rattle.plan.specs.declared.EnginePlan.{EnginePlan}
-use Rattle.plan.specs.declared.EnginePlan.the-variants.{Unused, Code, CodeAndTable}
+use Rattle.plan.specs.declared.EnginePlan.the-variants.{Unused, CodeOnly, CodeAndTable}
 use Rattle.plan.specs.declared.Plan.{Plan}
 use Rattle.plan.specs.Ranges.{planAt}
 use Rattle.machine.specs.declared.Mode.the-variants.{Disabled, Run}
@@ -26,7 +26,7 @@ pub record UsedEngine (first : Address) (e : Engine) : Type 0 where
 
 abbrev pub LoadedEngine : EnginePlan → Engine → Type 0
 LoadedEngine Unused e = e .mode ≡ Disabled
-LoadedEngine (Code f l) e = UsedEngine f e
+LoadedEngine (CodeOnly f l) e = UsedEngine f e
 LoadedEngine (CodeAndTable f l t b) e = UsedEngine f e
 
 pub record Loaded (P : Profile) (p : Plan) (image : List ℕ) (m : Chip) : Type 0 where

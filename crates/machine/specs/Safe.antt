@@ -7,7 +7,7 @@ use lib.Dec.{eqb}
 use Rattle.word.specs.Profile.{Profile}
 use Rattle.word.specs.declared.Address.{Address}
 use Rattle.plan.specs.declared.EnginePlan.{EnginePlan}
-use Rattle.plan.specs.declared.EnginePlan.the-variants.{Unused, Code, CodeAndTable}
+use Rattle.plan.specs.declared.EnginePlan.the-variants.{Unused, CodeOnly, CodeAndTable}
 use Rattle.plan.specs.declared.Plan.{Plan}
 use Rattle.plan.specs.Ranges.{planAt, firstOf, InCode}
 use Rattle.plan.specs.Conditions.{Defined}
@@ -41,7 +41,7 @@ pub record InsideTable (top bottom : Address) (x : Pointers) : Type 0 where
 
 abbrev pub PointsInside : EnginePlan → Pointers → Type 0
 PointsInside Unused x = Unit {0}
-PointsInside (Code f l) x = Unit {0}
+PointsInside (CodeOnly f l) x = Unit {0}
 PointsInside (CodeAndTable f l t b) x = InsideTable t b x
 
 -- After these turns every engine whose first two words, at first and first+1, are done points inside its table, if it has one.

@@ -7,7 +7,7 @@ use mathlib.Core.Path.{_≡_, refl, sym, _∙_}
 use native.Mathlib.Omega.{arith}
 use Rattle.word.specs.Profile.{Profile, LP5523}
 use Rattle.word.specs.Field.{flag, time, byte, skip, loops, step, address, output, triggers}
-use Rattle.word.specs.Table.{Line, line, none, lineOf, fits, every}
+use Rattle.word.specs.Table.{Encoding, line, none, encodingOf, fits, every}
 use Rattle.word.specs.declared.Direction.the-variants.{Up, Down}
 use Rattle.word.specs.declared.JumpOp.the-variants.{Jne, Jl, Jge, Je}
 use Rattle.word.specs.declared.ArithOp.the-variants.{Ld, Add, Sub}
@@ -26,7 +26,7 @@ use Rattle.op_lines.specs.Values.{opValues, wordValues}
 use Rattle.op_lines.proofs.Fits.{one, two, three, number-fits, variable-fits, target-fits}
 
 -- Whether the word of a line of the table has a code.
-abbrev pub codes : Profile → Line → Bool
+abbrev pub codes : Profile → Encoding → Bool
 codes P (line os w) = every (map (fits P) os)
 codes P none = false
 
@@ -38,11 +38,11 @@ RampByZero i = (p : ℕ) × (t : ℕ) × (i ≡ Ramp p t Up 0)
 pub record Written (P : Profile) (i : Word) : Type 0 where
   pub again : wordOf P (opValues P i) ≡ i
   pub padded : writeOp P (listOf (wordValues P i)) ≡ writeOp P (opValues P i)
-  pub fitting : RampByZero i ⊎ (fitsOp P (opValues P i) ≡ codes P (lineOf i))
+  pub fitting : RampByZero i ⊎ (fitsOp P (opValues P i) ≡ codes P (encodingOf i))
 
 -- a word whose values fit exactly where it has a code
 coded : {P : Profile} {i : Word} → wordOf P (opValues P i) ≡ i → writeOp P (listOf (wordValues P i)) ≡ writeOp P (opValues P i)
-    → fitsOp P (opValues P i) ≡ codes P (lineOf i) → Written P i
+    → fitsOp P (opValues P i) ≡ codes P (encodingOf i) → Written P i
 coded a p f = record { again = a; padded = p; fitting = inr f }
 
 -- the table and the line name the operands of a branch by a variable in different orders

@@ -3,7 +3,7 @@ use mathlib.Core.Path.{_≡_, refl, ap}
 use native.Mathlib.Omega.{arith}
 use Rattle.word.specs.Profile.{LP5523}
 use Rattle.plan.specs.declared.Verdict.{Verdict}
-use Rattle.plan.specs.declared.Verdict.the-variants.{Accept, WrongLength, OutOfOrder, CodeMeetsTable, UndefinedWord, SuccessorOutside, TableMisused, TableNotOpened, ReservedRowBit}
+use Rattle.plan.specs.declared.Verdict.the-variants.{Accept, WrongLength, InvalidRange, CodeOverlapsTable, UndefinedWord, SuccessorOutside, TableMisused, TableNotOpened, ReservedRowBit}
 use Rattle.plan.specs.declared.Report.{Report}
 use Rattle.plan.specs.Verdict.{reportOf}
 use Rattle.plan.specs.Conditions.{Accepted}
@@ -22,8 +22,8 @@ cases-reported = (refl, (refl, (refl, (refl, (refl, (refl, (refl, (refl, (refl, 
 pub zero-accepts : (v : Verdict) → reportOf v .number ≡ 0 → v ≡ Accept
 zero-accepts Accept e = refl
 zero-accepts WrongLength e = absurd (omega arith)
-zero-accepts (OutOfOrder i) e = absurd (omega arith)
-zero-accepts (CodeMeetsTable i) e = absurd (omega arith)
+zero-accepts (InvalidRange i) e = absurd (omega arith)
+zero-accepts (CodeOverlapsTable i) e = absurd (omega arith)
 zero-accepts (UndefinedWord i a) e = absurd (omega arith)
 zero-accepts (SuccessorOutside i a) e = absurd (omega arith)
 zero-accepts (TableMisused i a) e = absurd (omega arith)

@@ -17,14 +17,14 @@ use Rattle.word.specs.declared.Address.{Address}
 use Rattle.word.specs.declared.Flow.{Flow}
 use Rattle.word.specs.declared.Word.{Word}
 use Rattle.plan.specs.declared.EnginePlan.{EnginePlan}
-use Rattle.plan.specs.declared.EnginePlan.the-variants.{Unused, Code, CodeAndTable}
+use Rattle.plan.specs.declared.EnginePlan.the-variants.{Unused, CodeOnly, CodeAndTable}
 use Rattle.plan.specs.declared.Stray.{Stray}
 use Rattle.plan.specs.declared.Stray.the-variants.{To}
 use Rattle.plan.specs.declared.Verdict.{Verdict}
-use Rattle.plan.specs.declared.Verdict.the-variants.{Accept, WrongLength, OutOfOrder, CodeMeetsTable, UndefinedWord, SuccessorOutside, TableMisused, TableNotOpened, ReservedRowBit}
+use Rattle.plan.specs.declared.Verdict.the-variants.{Accept, WrongLength, InvalidRange, CodeOverlapsTable, UndefinedWord, SuccessorOutside, TableMisused, TableNotOpened, ReservedRowBit}
 use Rattle.plan.specs.Ranges.{firstOf}
 use Rattle.plan.specs.Conditions.{successorsOf}
-use Rattle.plan.specs.Tests.{ordered, inOrder, inCode, allIn, successorsInside, usesOwnTable, opensTable}
+use Rattle.plan.specs.Tests.{validRange, validRanges, inCode, allIn, successorsInside, usesOwnTable, opensTable}
 use Rattle.plan.specs.Strays.{firstOutside, strayOf}
 use Rattle.plan.specs.internal.Passes.{orElse, scan, wordVerdict, wordsVerdict, rowsVerdict, codeVerdict, tableVerdict, isInside}
 use Rattle.plan.proofs.Verdict.{the-type}
@@ -47,8 +47,8 @@ goes-on {v} {b = b} e y f = f ∙ sym (or-accept v b y) ∙ ap (λ (x : Verdict)
 pub is-accept : (v : Verdict) → isAccept v ≡ true → v ≡ Accept
 is-accept Accept e = refl
 is-accept WrongLength e = cc
-is-accept (OutOfOrder i) e = cc
-is-accept (CodeMeetsTable i) e = cc
+is-accept (InvalidRange i) e = cc
+is-accept (CodeOverlapsTable i) e = cc
 is-accept (UndefinedWord i a) e = cc
 is-accept (SuccessorOutside i a) e = cc
 is-accept (TableMisused i a) e = cc
@@ -59,8 +59,8 @@ is-accept (ReservedRowBit i a) e = cc
 pub not-accept : (v : Verdict) → OneOf (1 ∷ 2 ∷ 3 ∷ 4 ∷ 5 ∷ 6 ∷ 7 ∷ 8 ∷ []) (tagOf the-type v) → isAccept v ≡ false
 not-accept Accept h = absurd (miss (1 ∷ 2 ∷ 3 ∷ 4 ∷ 5 ∷ 6 ∷ 7 ∷ 8 ∷ []) 0 tt h)
 not-accept WrongLength h = refl
-not-accept (OutOfOrder i) h = refl
-not-accept (CodeMeetsTable i) h = refl
+not-accept (InvalidRange i) h = refl
+not-accept (CodeOverlapsTable i) h = refl
 not-accept (UndefinedWord i a) h = refl
 not-accept (SuccessorOutside i a) h = refl
 not-accept (TableMisused i a) h = refl
@@ -68,21 +68,21 @@ not-accept (TableNotOpened i a) h = refl
 not-accept (ReservedRowBit i a) h = refl
 
 -- where 11 has passed, a range ends in the memory
-ordered-within : (f l : Address) → ordered LP5523 f l ≡ true → l .0 < 96
-ordered-within f l e = ltb-true (l .0) 96 (and-right (leb (f .0) (l .0)) (ltb (l .0) 96) e)
+range-within : (f l : Address) → validRange LP5523 f l ≡ true → l .0 < 96
+range-within f l e = ltb-true (l .0) 96 (and-right (leb (f .0) (l .0)) (ltb (l .0) 96) e)
 
-pub code-within : (q : EnginePlan) (f l : Address) → inOrder LP5523 q ≡ true → q ≡ Code f l → l .0 < 96
-code-within q f l h e = ordered-within f l (ap (inOrder LP5523) (sym e) ∙ h)
+pub code-within : (q : EnginePlan) (f l : Address) → validRanges LP5523 q ≡ true → q ≡ CodeOnly f l → l .0 < 96
+code-within q f l h e = range-within f l (ap (validRanges LP5523) (sym e) ∙ h)
 
-module _ (q : EnginePlan) (f l t b : Address) (h : inOrder LP5523 q ≡ true) (e : q ≡ CodeAndTable f l t b) where
-  both-ordered : (ordered LP5523 f l && ordered LP5523 t b) ≡ true
-  both-ordered = ap (inOrder LP5523) (sym e) ∙ h
+module _ (q : EnginePlan) (f l t b : Address) (h : validRanges LP5523 q ≡ true) (e : q ≡ CodeAndTable f l t b) where
+  both-valid : (validRange LP5523 f l && validRange LP5523 t b) ≡ true
+  both-valid = ap (validRanges LP5523) (sym e) ∙ h
 
   pub code-beside-table-within : l .0 < 96
-  code-beside-table-within = ordered-within f l (and-left (ordered LP5523 f l) (ordered LP5523 t b) both-ordered)
+  code-beside-table-within = range-within f l (and-left (validRange LP5523 f l) (validRange LP5523 t b) both-valid)
 
   pub table-within : b .0 < 96
-  table-within = ordered-within t b (and-right (ordered LP5523 f l) (ordered LP5523 t b) both-ordered)
+  table-within = range-within t b (and-right (validRange LP5523 f l) (validRange LP5523 t b) both-valid)
 
 -- an engine's words and rows, by what its plan is
 module _ (P : Profile) (q : EnginePlan) (i : ℕ) (image : List ℕ) where
@@ -90,7 +90,7 @@ module _ (P : Profile) (q : EnginePlan) (i : ℕ) (image : List ℕ) where
   unfolding codeVerdict
   no-words e = ap (λ (r : EnginePlan). codeVerdict P r i image) (sym e)
 
-  pub code-words : {f l : Address} → q ≡ Code f l → wordsVerdict P (Code f l) i image (f .0) (l .0 + 1 - f .0) ≡ codeVerdict P q i image
+  pub code-words : {f l : Address} → q ≡ CodeOnly f l → wordsVerdict P (CodeOnly f l) i image (f .0) (l .0 + 1 - f .0) ≡ codeVerdict P q i image
   unfolding codeVerdict
   code-words e = ap (λ (r : EnginePlan). codeVerdict P r i image) (sym e)
 

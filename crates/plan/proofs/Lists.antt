@@ -10,7 +10,7 @@ use Rattle.laws.proofs.Tests.{by-test}
 use Rattle.word.specs.Profile.{Profile, LP5523, upward}
 use Rattle.word.specs.declared.Address.{Address}
 use Rattle.plan.specs.declared.EnginePlan.{EnginePlan}
-use Rattle.plan.specs.declared.EnginePlan.the-variants.{Unused, Code, CodeAndTable}
+use Rattle.plan.specs.declared.EnginePlan.the-variants.{Unused, CodeOnly, CodeAndTable}
 use Rattle.plan.specs.declared.Plan.{Plan}
 use Rattle.plan.specs.declared.Verdict.{Verdict}
 use Rattle.plan.specs.Ranges.{planAt, InRange, InCode, InTable, addresses, codeAddresses, tableAddresses}
@@ -51,12 +51,12 @@ module _ (R : ℕ → Type 0) where
 
   code-all : (q : EnginePlan) → AllIn R (codeAddresses q) ↔ ((a : ℕ) → InCode q a → R a)
   code-all Unused = none-all
-  code-all (Code f l) = range-all f l
+  code-all (CodeOnly f l) = range-all f l
   code-all (CodeAndTable f l t b) = range-all f l
 
   table-all : (q : EnginePlan) → AllIn R (tableAddresses q) ↔ ((a : ℕ) → InTable q a → R a)
   table-all Unused = none-all
-  table-all (Code f l) = none-all
+  table-all (CodeOnly f l) = none-all
   table-all (CodeAndTable f l t b) = range-all t b
 
 -- an engine that isn't one of the chip's is unused

@@ -11,15 +11,15 @@ use Rattle.plan.specs.Verdict.{isAccept}
 use Rattle.word.specs.Profile.{Profile, LP5523, upward}
 use Rattle.word.specs.Steps.{addressAt}
 use Rattle.plan.specs.declared.EnginePlan.{EnginePlan}
-use Rattle.plan.specs.declared.EnginePlan.the-variants.{Unused, Code, CodeAndTable}
+use Rattle.plan.specs.declared.EnginePlan.the-variants.{Unused, CodeOnly, CodeAndTable}
 use Rattle.plan.specs.declared.Plan.{Plan}
 use Rattle.plan.specs.declared.Verdict.{Verdict}
-use Rattle.plan.specs.declared.Verdict.the-variants.{Accept, WrongLength, OutOfOrder, CodeMeetsTable, TableNotOpened}
+use Rattle.plan.specs.declared.Verdict.the-variants.{Accept, WrongLength, InvalidRange, CodeOverlapsTable, TableNotOpened}
 use Rattle.plan.specs.Ranges.{planAt, firstOf, codeAddresses, tableAddresses}
 use Rattle.word.specs.Decode.{wordAt}
-use Rattle.plan.specs.Tests.{holds, inOrder, opensTable}
+use Rattle.plan.specs.Tests.{holds, validRanges, opensTable}
 use Rattle.plan.specs.Check.{engineNumbers, joined, ofWord, ofRow, ofEngine, firstFailing, checkOf, checkRangesOf}
-use Rattle.plan.specs.internal.Passes.{orElse, scan, orderVerdict, apartVerdict, wordVerdict, wordsVerdict, rowVerdict, rowsVerdict, codeVerdict, tableVerdict, engineVerdict, enginesVerdict}
+use Rattle.plan.specs.internal.Passes.{orElse, scan, validVerdict, overlapVerdict, wordVerdict, wordsVerdict, rowVerdict, rowsVerdict, codeVerdict, tableVerdict, engineVerdict, enginesVerdict}
 use Rattle.plan.proofs.Laws.{is-accept, or-accept, or-refused}
 
 -- the first failing of two lists
@@ -83,14 +83,14 @@ module _ (P : Profile) (p : Plan) (image : List ℕ) (i : ℕ) where
   code : (q : EnginePlan) → planAt P p i ≡ q → firstFailing (holds P p image) (joined (ofWord i) (codeAddresses q)) ≡ codeVerdict P q i image
   unfolding firstFailing codeVerdict
   code Unused e = refl
-  code (Code f l) e = words (f .0) (l .0 + 1 - f .0) ∙ ap (λ (q : EnginePlan). wordsVerdict P q i image (f .0) (l .0 + 1 - f .0)) e
+  code (CodeOnly f l) e = words (f .0) (l .0 + 1 - f .0) ∙ ap (λ (q : EnginePlan). wordsVerdict P q i image (f .0) (l .0 + 1 - f .0)) e
   code (CodeAndTable f l t b) e = words (f .0) (l .0 + 1 - f .0) ∙ ap (λ (q : EnginePlan). wordsVerdict P q i image (f .0) (l .0 + 1 - f .0)) e
 
   table : (q : EnginePlan) → planAt P p i ≡ q
       → firstFailing (holds P p image) (TableNotOpened i (addressAt (firstOf q)) ∷ joined (ofRow i) (tableAddresses q)) ≡ tableVerdict P q i image
   unfolding firstFailing tableVerdict
   table Unused e = ap (λ (q : EnginePlan). cond (opensTable P image q) Accept (TableNotOpened i (addressAt 0))) e
-  table (Code f l) e = ap (λ (q : EnginePlan). cond (opensTable P image q) Accept (TableNotOpened i f)) e
+  table (CodeOnly f l) e = ap (λ (q : EnginePlan). cond (opensTable P image q) Accept (TableNotOpened i f)) e
   table (CodeAndTable f l t b) e =
       ap (λ (v : Verdict). cond (opensTable P image (planAt P p i)) v (TableNotOpened i f)) (rows (t .0) (b .0 + 1 - t .0))
       ∙ ap (λ (q : EnginePlan). cond (opensTable P image q) (rowsVerdict P i image (t .0) (b .0 + 1 - t .0)) (TableNotOpened i f)) e
@@ -103,11 +103,11 @@ module _ (P : Profile) (p : Plan) (image : List ℕ) (i : ℕ) where
       ∙ ap (orElse (codeVerdict P q i image)) (table q e)
 
 -- 11 and 12 by themselves
-both-ranges : (p : Plan) → checkRangesOf LP5523 p ≡ orElse (orderVerdict LP5523 p) (apartVerdict LP5523 p)
-unfolding checkRangesOf firstFailing orderVerdict apartVerdict
-both-ranges p = append (holds LP5523 p []) refl (map OutOfOrder (engineNumbers LP5523)) (map CodeMeetsTable (engineNumbers LP5523))
+both-ranges : (p : Plan) → checkRangesOf LP5523 p ≡ orElse (validVerdict LP5523 p) (overlapVerdict LP5523 p)
+unfolding checkRangesOf firstFailing validVerdict overlapVerdict
+both-ranges p = append (holds LP5523 p []) refl (map InvalidRange (engineNumbers LP5523)) (map CodeOverlapsTable (engineNumbers LP5523))
 
-pub ranges : (p : Plan) {v : Verdict} → v ≡ orElse (orderVerdict LP5523 p) (apartVerdict LP5523 p) → v ≡ checkRangesOf LP5523 p
+pub ranges : (p : Plan) {v : Verdict} → v ≡ orElse (validVerdict LP5523 p) (overlapVerdict LP5523 p) → v ≡ checkRangesOf LP5523 p
 ranges p e = e ∙ sym (both-ranges p)
 
 -- the whole
@@ -126,15 +126,15 @@ module _ (p : Plan) (image : List ℕ) where
       (engine LP5523 p image 3 (planAt LP5523 p 3) refl)
 
   whole : checkOf LP5523 p image
-      ≡ cond (eqb (length image) 96) (orElse (orderVerdict LP5523 p) (orElse (apartVerdict LP5523 p) (enginesVerdict LP5523 p image))) WrongLength
-  unfolding checkOf firstFailing orderVerdict apartVerdict
+      ≡ cond (eqb (length image) 96) (orElse (validVerdict LP5523 p) (orElse (overlapVerdict LP5523 p) (enginesVerdict LP5523 p image))) WrongLength
+  unfolding checkOf firstFailing validVerdict overlapVerdict
   whole =
       let rest = listOf 1 ++ (listOf 2 ++ (listOf 3 ++ [])) in
-      let tables = map CodeMeetsTable (engineNumbers LP5523) in
+      let tables = map CodeOverlapsTable (engineNumbers LP5523) in
       ap
       (λ (v : Verdict). cond (eqb (length image) 96) v WrongLength)
-      (append (holds LP5523 p image) refl (map OutOfOrder (engineNumbers LP5523)) (tables ++ rest)
-      ∙ ap (orElse (orderVerdict LP5523 p)) (append (holds LP5523 p image) refl tables rest ∙ ap (orElse (apartVerdict LP5523 p)) engines))
+      (append (holds LP5523 p image) refl (map InvalidRange (engineNumbers LP5523)) (tables ++ rest)
+      ∙ ap (orElse (validVerdict LP5523 p)) (append (holds LP5523 p image) refl tables rest ∙ ap (orElse (overlapVerdict LP5523 p)) engines))
 
   pub wrong-length : (length image ≡ 96 → ⊥) → WrongLength ≡ checkOf LP5523 p image
   wrong-length n = sym (whole ∙ simp (ne-eqb (length image) 96 n))
@@ -144,20 +144,20 @@ module _ (p : Plan) (image : List ℕ) where
       let rest = enginesVerdict LP5523 p image in
       e
       ∙ ap (λ (v : Verdict). orElse v rest) (both-ranges p)
-      ∙ or-or (orderVerdict LP5523 p) (apartVerdict LP5523 p) rest
+      ∙ or-or (validVerdict LP5523 p) (overlapVerdict LP5523 p) rest
       ∙ sym (whole ∙ simp (eq-eqb (length image) 96 h))
 
 -- where 11 and 12 have passed, each engine is in order
-order-at : (a b c : Bool) (i j k : ℕ) → isAccept (cond a (cond b (cond c Accept (OutOfOrder k)) (OutOfOrder j)) (OutOfOrder i)) ≡ true
+order-at : (a b c : Bool) (i j k : ℕ) → isAccept (cond a (cond b (cond c Accept (InvalidRange k)) (InvalidRange j)) (InvalidRange i)) ≡ true
     → (a ≡ true) × (b ≡ true) × (c ≡ true)
 order-at true true true i j k e = (refl, refl, refl)
 order-at true true false i j k e = (refl, refl, e)
 order-at true false c i j k e = absurd (false≢true e)
 order-at false b c i j k e = absurd (false≢true e)
 
-pub all-in-order : (p : Plan) → isAccept (checkRangesOf LP5523 p) ≡ true
-    → (inOrder LP5523 (p .engine1) ≡ true) × (inOrder LP5523 (p .engine2) ≡ true) × (inOrder LP5523 (p .engine3) ≡ true)
-unfolding orderVerdict
-all-in-order p e =
-    order-at (inOrder LP5523 (p .engine1)) (inOrder LP5523 (p .engine2)) (inOrder LP5523 (p .engine3)) 1 2 3
-    (left-accepts (orderVerdict LP5523 p) (apartVerdict LP5523 p) (ap isAccept (sym (both-ranges p)) ∙ e))
+pub all-valid-ranges : (p : Plan) → isAccept (checkRangesOf LP5523 p) ≡ true
+    → (validRanges LP5523 (p .engine1) ≡ true) × (validRanges LP5523 (p .engine2) ≡ true) × (validRanges LP5523 (p .engine3) ≡ true)
+unfolding validVerdict
+all-valid-ranges p e =
+    order-at (validRanges LP5523 (p .engine1)) (validRanges LP5523 (p .engine2)) (validRanges LP5523 (p .engine3)) 1 2 3
+    (left-accepts (validVerdict LP5523 p) (overlapVerdict LP5523 p) (ap isAccept (sym (both-ranges p)) ∙ e))

@@ -16,12 +16,12 @@ use Rattle.word.specs.declared.TableUse.the-variants.{Nothing, StartAt, EndAt, 
 use Rattle.word.specs.declared.Word.{Word}
 use Rattle.word.specs.declared.Word.the-variants.{Rst, Ramp, Wait, Set, RampVar, SetVar, BranchVar, Jump, Arith, ArithVar, MuxAt, MuxClr, MuxSel, MuxMove, Branch, End, Int, Trigger, Undefined}
 use Rattle.plan.specs.declared.EnginePlan.{EnginePlan}
-use Rattle.plan.specs.declared.EnginePlan.the-variants.{Unused, Code, CodeAndTable}
-use Rattle.plan.specs.declared.Verdict.the-variants.{Accept, WrongLength, OutOfOrder, CodeMeetsTable, UndefinedWord, SuccessorOutside, TableMisused, TableNotOpened, ReservedRowBit}
+use Rattle.plan.specs.declared.EnginePlan.the-variants.{Unused, CodeOnly, CodeAndTable}
+use Rattle.plan.specs.declared.Verdict.the-variants.{Accept, WrongLength, InvalidRange, CodeOverlapsTable, UndefinedWord, SuccessorOutside, TableMisused, TableNotOpened, ReservedRowBit}
 use Rattle.plan.specs.Ranges.{enginePlans, planAt, InRange, InCode, InTable, firstOf}
 use Rattle.word.specs.Decode.{wordAt}
-use Rattle.plan.specs.Conditions.{Ordered, InOrder, Defined, successorsOf, AllIn, SuccessorsInside, UseInside, NoUse, UsesOwnTable, isStart, isEnd, OpensTable, reservedBits}
-use Rattle.plan.specs.Tests.{ordered, inOrder, overlap, codeMeets, meets, meetsAny, inRange, inCode, allIn, successorsInside, useInside, noUse, usesOwnTable, opensTable}
+use Rattle.plan.specs.Conditions.{ValidRange, ValidRanges, Disjoint, Defined, successorsOf, AllIn, SuccessorsInside, UseInside, NoUse, UsesOwnTable, isStart, isEnd, OpensTable, reservedBits}
+use Rattle.plan.specs.Tests.{validRange, validRanges, overlap, codeOverlaps, overlaps, overlapsAny, inRange, inCode, allIn, successorsInside, useInside, noUse, usesOwnTable, opensTable}
 use Rattle.plan.specs.Theorems.{TestsExactly}
 
 abbrev pub Exactly : Bool → Type 0 → Type 0
@@ -67,54 +67,51 @@ in-range f l a = both (leb (f .0) a) (leb a (l .0)) (at-most (f .0) a) (at-most 
 
 in-code : (q : EnginePlan) (a : ℕ) → Exactly (inCode q a) (InCode q a)
 in-code Unused a = never (λ h. h)
-in-code (Code f l) a = in-range f l a
+in-code (CodeOnly f l) a = in-range f l a
 in-code (CodeAndTable f l t b) a = in-range f l a
 
 -- 11
-ordered-exactly : (P : Profile) (a b : Address) → Exactly (ordered P a b) (Ordered P a b)
-ordered-exactly P a b = both (leb (a .0) (b .0)) (ltb (b .0) (wordsOf P)) (at-most (a .0) (b .0)) (below (b .0) (wordsOf P))
+range-exactly : (P : Profile) (a b : Address) → Exactly (validRange P a b) (ValidRange P a b)
+range-exactly P a b = both (leb (a .0) (b .0)) (ltb (b .0) (wordsOf P)) (at-most (a .0) (b .0)) (below (b .0) (wordsOf P))
 
-in-order : (P : Profile) (q : EnginePlan) → Exactly (inOrder P q) (InOrder P q)
-in-order P Unused = always tt
-in-order P (Code f l) = ordered-exactly P f l
-in-order P (CodeAndTable f l t b) = both (ordered P f l) (ordered P t b) (ordered-exactly P f l) (ordered-exactly P t b)
+valid-ranges : (P : Profile) (q : EnginePlan) → Exactly (validRanges P q) (ValidRanges P q)
+valid-ranges P Unused = always tt
+valid-ranges P (CodeOnly f l) = range-exactly P f l
+valid-ranges P (CodeAndTable f l t b) = both (validRange P f l) (validRange P t b) (range-exactly P f l) (range-exactly P t b)
 
 -- 12
-abbrev Disjoint : EnginePlan → EnginePlan → Type 0
-Disjoint q r = (a : ℕ) → InCode q a → InTable r a → ⊥
-
 -- the greater of two ranges' first addresses is common, if any is
-disjoint : (f l t b : Address) → Exactly (not (overlap f l t b)) ((a : ℕ) → InRange f l a → InRange t b a → ⊥)
-disjoint f l t b =
-    restated (fails (overlap f l t b) overlaps)
+ranges-disjoint : (f l t b : Address) → Exactly (not (overlap f l t b)) ((a : ℕ) → InRange f l a → InRange t b a → ⊥)
+ranges-disjoint f l t b =
+    restated (fails (overlap f l t b) overlap-exactly)
     (λ n a c d. n (omega arith, (omega arith, (omega arith, omega arith))))
     (λ n h. n (max (f .0) (t .0)) (omega arith) (omega arith))
   where
-    overlaps : Exactly (overlap f l t b) ((f .0 ≤ l .0) × ((t .0 ≤ b .0) × ((f .0 ≤ b .0) × (t .0 ≤ l .0))))
-    overlaps =
+    overlap-exactly : Exactly (overlap f l t b) ((f .0 ≤ l .0) × ((t .0 ≤ b .0) × ((f .0 ≤ b .0) × (t .0 ≤ l .0))))
+    overlap-exactly =
         both (leb (f .0) (l .0)) _ (at-most (f .0) (l .0)) (both (leb (t .0) (b .0)) _ (at-most (t .0) (b .0)) (both (leb (f .0) (b .0)) (leb (t .0) (l .0)) (at-most (f .0) (b .0)) (at-most (t .0) (l .0))))
 
-code-disjoint : (q : EnginePlan) (t b : Address) → Exactly (not (codeMeets q t b)) ((a : ℕ) → InCode q a → InRange t b a → ⊥)
+code-disjoint : (q : EnginePlan) (t b : Address) → Exactly (not (codeOverlaps q t b)) ((a : ℕ) → InCode q a → InRange t b a → ⊥)
 code-disjoint Unused t b = always (λ a c d. c)
-code-disjoint (Code f l) t b = disjoint f l t b
-code-disjoint (CodeAndTable f l t′ b′) t b = disjoint f l t b
+code-disjoint (CodeOnly f l) t b = ranges-disjoint f l t b
+code-disjoint (CodeAndTable f l t′ b′) t b = ranges-disjoint f l t b
 
-plan-disjoint : (q r : EnginePlan) → Exactly (not (meets q r)) (Disjoint q r)
+plan-disjoint : (q r : EnginePlan) → Exactly (not (overlaps q r)) (Disjoint q r)
 plan-disjoint q Unused = always (λ a c d. d)
-plan-disjoint q (Code f l) = always (λ a c d. d)
+plan-disjoint q (CodeOnly f l) = always (λ a c d. d)
 plan-disjoint q (CodeAndTable f l t b) = code-disjoint q t b
 
 at-each : (q r : EnginePlan) (rs : List EnginePlan) → Disjoint q r × ((i : ℕ) → Disjoint q (getD rs i Unused)) → (i : ℕ) → Disjoint q (getD (r ∷ rs) i Unused)
 at-each q r rs h zero = h .0
 at-each q r rs h (suc i) = h .1 i
 
-all-disjoint : (q : EnginePlan) (rs : List EnginePlan) → Exactly (not (meetsAny q rs)) ((i : ℕ) → Disjoint q (getD rs i Unused))
+all-disjoint : (q : EnginePlan) (rs : List EnginePlan) → Exactly (not (overlapsAny q rs)) ((i : ℕ) → Disjoint q (getD rs i Unused))
 all-disjoint q [] = always (λ i a c d. d)
-all-disjoint q (r ∷ rs) = restated (neither (meets q r) (meetsAny q rs) (plan-disjoint q r) (all-disjoint q rs)) (at-each q r rs) (λ h. (h 0, λ i. h (suc i)))
+all-disjoint q (r ∷ rs) = restated (neither (overlaps q r) (overlapsAny q rs) (plan-disjoint q r) (all-disjoint q rs)) (at-each q r rs) (λ h. (h 0, λ i. h (suc i)))
 
 -- engine 0, which no chip has, changes nothing
-apart : (q : EnginePlan) (rs : List EnginePlan) → Exactly (not (meetsAny q rs)) ((i : ℕ) → Disjoint q (getD (Unused ∷ rs) i Unused))
-apart q rs = restated (all-disjoint q rs) (λ h. at-each q Unused rs (λ a c d. d, h)) (λ h i. h (suc i))
+disjoint-from-all : (q : EnginePlan) (rs : List EnginePlan) → Exactly (not (overlapsAny q rs)) ((i : ℕ) → Disjoint q (getD (Unused ∷ rs) i Unused))
+disjoint-from-all q rs = restated (all-disjoint q rs) (λ h. at-each q Unused rs (λ a c d. d, h)) (λ h i. h (suc i))
 
 -- 13
 defined-passes : (w : Word) → Defined w → not (isUndefined w) ≡ true
@@ -169,13 +166,13 @@ use-inside t b Backward = always tt
 
 uses-own-table : (q : EnginePlan) (u : TableUse) → Exactly (usesOwnTable q u) (UsesOwnTable q u)
 uses-own-table Unused u = no-use u
-uses-own-table (Code f l) u = no-use u
+uses-own-table (CodeOnly f l) u = no-use u
 uses-own-table (CodeAndTable f l t b) u = use-inside t b u
 
 -- 16
 opens-table : (P : Profile) (image : List ℕ) (q : EnginePlan) → Exactly (opensTable P image q) (OpensTable P image q)
 opens-table P image Unused = always tt
-opens-table P image (Code f l) = always tt
+opens-table P image (CodeOnly f l) = always tt
 opens-table P image (CodeAndTable f l t b) =
     all-three (ltb (f .0) (l .0)) (isStart (tableUseOf (wordAt P image (f .0)))) (isEnd (tableUseOf (wordAt P image (f .0 + 1))))
     (below (f .0) (l .0)) (λ e. e, λ e. e) (λ e. e, λ e. e)
@@ -183,8 +180,8 @@ opens-table P image (CodeAndTable f l t b) =
 pub tests-exactly : TestsExactly
 tests-exactly P p image Accept = always tt
 tests-exactly P p image WrongLength = same (length image) (wordsOf P)
-tests-exactly P p image (OutOfOrder i) = in-order P (planAt P p i)
-tests-exactly P p image (CodeMeetsTable i) = apart (planAt P p i) (enginePlans P p)
+tests-exactly P p image (InvalidRange i) = valid-ranges P (planAt P p i)
+tests-exactly P p image (CodeOverlapsTable i) = disjoint-from-all (planAt P p i) (enginePlans P p)
 tests-exactly P p image (UndefinedWord i a) = defined (wordAt P image (a .0))
 tests-exactly P p image (SuccessorOutside i a) = successors (planAt P p i) (a .0) (wordAt P image (a .0))
 tests-exactly P p image (TableMisused i a) = uses-own-table (planAt P p i) (tableUseOf (wordAt P image (a .0)))

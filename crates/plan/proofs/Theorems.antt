@@ -12,10 +12,10 @@ use Rattle.plan.specs.declared.EnginePlan.{EnginePlan}
 use Rattle.plan.specs.declared.EnginePlan.the-variants.{Unused}
 use Rattle.plan.specs.declared.Plan.{Plan}
 use Rattle.plan.specs.declared.Verdict.{Verdict}
-use Rattle.plan.specs.declared.Verdict.the-variants.{OutOfOrder, CodeMeetsTable, TableNotOpened}
+use Rattle.plan.specs.declared.Verdict.the-variants.{InvalidRange, CodeOverlapsTable, TableNotOpened}
 use Rattle.plan.specs.Ranges.{planAt, InCode, InTable, firstOf, codeAddresses, tableAddresses}
 use Rattle.word.specs.Decode.{wordAt}
-use Rattle.plan.specs.Conditions.{InOrder, Apart, Defined, AllIn, SuccessorsInside, UsesOwnTable, OpensTable, RowClear, Accepted, Condition}
+use Rattle.plan.specs.Conditions.{ValidRanges, CodeDisjoint, Defined, AllIn, SuccessorsInside, UsesOwnTable, OpensTable, RowClear, Accepted, Condition}
 use Rattle.plan.specs.Tests.{holds}
 use Rattle.plan.specs.Check.{engineNumbers, joined, ofWord, ofRow, ofEngine, verdictsOf, checkOf}
 use Rattle.plan.specs.Theorems.{AcceptsExactly, AllOf, Located, RefusesFirst}
@@ -59,10 +59,10 @@ module _ (P : Profile) (p : Plan) (image : List ℕ) where
 
   -- the order after WrongLength: 11, 12, then the engines
   abbrev orders : List Verdict
-  orders = map OutOfOrder (engineNumbers P)
+  orders = map InvalidRange (engineNumbers P)
 
   abbrev meetings : List Verdict
-  meetings = map CodeMeetsTable (engineNumbers P)
+  meetings = map CodeOverlapsTable (engineNumbers P)
 
   abbrev engines : List Verdict
   engines = joined (λ i. ofEngine (planAt P p i) i) (engineNumbers P)
@@ -86,8 +86,8 @@ module _ (P : Profile) (p : Plan) (image : List ℕ) where
       let good = engines-met .0 (s .1) in
       record {
         complete = h .0;
-        inOrder = engine-all (InOrder P) tt P p (met-map (Condition P p image) OutOfOrder (engineNumbers P) .0 (t .0));
-        apart = engine-all (Apart P p) (λ i a c. absurd c) P p (met-map (Condition P p image) CodeMeetsTable (engineNumbers P) .0 (t .1));
+        validRanges = engine-all (ValidRanges P) tt P p (met-map (Condition P p image) InvalidRange (engineNumbers P) .0 (t .0));
+        disjoint = engine-all (CodeDisjoint P p) (λ i a c. absurd c) P p (met-map (Condition P p image) CodeOverlapsTable (engineNumbers P) .0 (t .1));
         defined = λ i a c. good i .words a c .0;
         successors = λ i a c. good i .words a c .1;
         tableUse = λ i a c. good i .words a c .2;
@@ -97,8 +97,8 @@ module _ (P : Profile) (p : Plan) (image : List ℕ) where
 
   met : Accepted P p image → AllOf (Condition P p image) (verdictsOf P p)
   met A =
-      let o = met-map (Condition P p image) OutOfOrder (engineNumbers P) .1 (all-given (A .inOrder) (engineNumbers P)) in
-      let m = met-map (Condition P p image) CodeMeetsTable (engineNumbers P) .1 (all-given (A .apart) (engineNumbers P)) in
+      let o = met-map (Condition P p image) InvalidRange (engineNumbers P) .1 (all-given (A .validRanges) (engineNumbers P)) in
+      let m = met-map (Condition P p image) CodeOverlapsTable (engineNumbers P) .1 (all-given (A .disjoint) (engineNumbers P)) in
       let e = engines-met .1 (λ i. record {
         words = λ a c. (A .defined i a c, A .successors i a c, A .tableUse i a c);
         opens = A .opensTable i;
@@ -116,8 +116,8 @@ module _ (P : Profile) (p : Plan) (image : List ℕ) where
 
   all-located : AllOf (Located P p) (verdictsOf P p)
   all-located =
-      let o = met-map (Located P p) OutOfOrder (engineNumbers P) .1 (all-given (λ i. tt) (engineNumbers P)) in
-      let m = met-map (Located P p) CodeMeetsTable (engineNumbers P) .1 (all-given (λ i. tt) (engineNumbers P)) in
+      let o = met-map (Located P p) InvalidRange (engineNumbers P) .1 (all-given (λ i. tt) (engineNumbers P)) in
+      let m = met-map (Located P p) CodeOverlapsTable (engineNumbers P) .1 (all-given (λ i. tt) (engineNumbers P)) in
       let e = met-joined (Located P p) (λ i. ofEngine (planAt P p i) i) (engineNumbers P) .1 (all-given engine-located (engineNumbers P)) in
       (tt, met-append (Located P p) (orders ++ meetings) engines .1 (met-append (Located P p) orders meetings .1 (o, m), e))
 

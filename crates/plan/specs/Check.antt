@@ -8,7 +8,7 @@ use Rattle.word.specs.Steps.{addressAt}
 use Rattle.plan.specs.declared.EnginePlan.{EnginePlan}
 use Rattle.plan.specs.declared.Plan.{Plan}
 use Rattle.plan.specs.declared.Verdict.{Verdict}
-use Rattle.plan.specs.declared.Verdict.the-variants.{Accept, WrongLength, OutOfOrder, CodeMeetsTable, UndefinedWord, SuccessorOutside, TableMisused, TableNotOpened, ReservedRowBit}
+use Rattle.plan.specs.declared.Verdict.the-variants.{Accept, WrongLength, InvalidRange, CodeOverlapsTable, UndefinedWord, SuccessorOutside, TableMisused, TableNotOpened, ReservedRowBit}
 use Rattle.plan.specs.Ranges.{planAt, firstOf, codeAddresses, tableAddresses}
 use Rattle.plan.specs.Tests.{holds}
 
@@ -37,8 +37,8 @@ ofEngine q i = joined (ofWord i) (codeAddresses q) ++ (TableNotOpened i (address
 abbrev pub verdictsOf : Profile → Plan → List Verdict
 verdictsOf P p =
     WrongLength ∷
-    map OutOfOrder (engineNumbers P) ++
-    map CodeMeetsTable (engineNumbers P) ++
+    map InvalidRange (engineNumbers P) ++
+    map CodeOverlapsTable (engineNumbers P) ++
     joined (λ i. ofEngine (planAt P p i) i) (engineNumbers P)
 
 -- The first verdict of a list whose condition is not met.
@@ -51,4 +51,4 @@ checkOf P p image = firstFailing (holds P p image) (verdictsOf P p)
 
 -- 11 and 12 by themselves: what can be said against a plan whatever its image is, in the same order.
 unfoldable pub checkRangesOf : Profile → Plan → Verdict
-checkRangesOf P p = firstFailing (holds P p []) (map OutOfOrder (engineNumbers P) ++ map CodeMeetsTable (engineNumbers P))
+checkRangesOf P p = firstFailing (holds P p []) (map InvalidRange (engineNumbers P) ++ map CodeOverlapsTable (engineNumbers P))

@@ -17,10 +17,10 @@ use Rattle.word.specs.declared.TableUse.the-variants.{Nothing, StartAt, EndAt, 
 use Rattle.word.specs.declared.Word.{Word}
 use Rattle.word.specs.declared.Word.the-variants.{Undefined}
 use Rattle.plan.specs.declared.EnginePlan.{EnginePlan}
-use Rattle.plan.specs.declared.EnginePlan.the-variants.{Unused, Code, CodeAndTable}
+use Rattle.plan.specs.declared.EnginePlan.the-variants.{Unused, CodeOnly, CodeAndTable}
 use Rattle.plan.specs.declared.Plan.{Plan}
 use Rattle.plan.specs.declared.Verdict.{Verdict}
-use Rattle.plan.specs.declared.Verdict.the-variants.{Accept, WrongLength, OutOfOrder, CodeMeetsTable, UndefinedWord, SuccessorOutside, TableMisused, TableNotOpened, ReservedRowBit}
+use Rattle.plan.specs.declared.Verdict.the-variants.{Accept, WrongLength, InvalidRange, CodeOverlapsTable, UndefinedWord, SuccessorOutside, TableMisused, TableNotOpened, ReservedRowBit}
 use Rattle.plan.specs.Ranges.{planAt, InCode, InTable, firstOf}
 
 -- 9: the image has as many words as the chip.
@@ -28,17 +28,20 @@ abbrev pub Complete : Profile → List ℕ → Type 0
 Complete P image = length image ≡ wordsOf P
 
 -- 11: from a to b is in order and in the memory.
-abbrev pub Ordered : Profile → Address → Address → Type 0
-Ordered P a b = (a .0 ≤ b .0) × (b .0 < wordsOf P)
+abbrev pub ValidRange : Profile → Address → Address → Type 0
+ValidRange P a b = (a .0 ≤ b .0) × (b .0 < wordsOf P)
 
-abbrev pub InOrder : Profile → EnginePlan → Type 0
-InOrder P Unused = Unit {0}
-InOrder P (Code f l) = Ordered P f l
-InOrder P (CodeAndTable f l t b) = Ordered P f l × Ordered P t b
+abbrev pub ValidRanges : Profile → EnginePlan → Type 0
+ValidRanges P Unused = Unit {0}
+ValidRanges P (CodeOnly f l) = ValidRange P f l
+ValidRanges P (CodeAndTable f l t b) = ValidRange P f l × ValidRange P t b
 
 -- 12: no code address of this engine is a table address of any engine.
-abbrev pub Apart : Profile → Plan → EnginePlan → Type 0
-Apart P p q = (i a : ℕ) → InCode q a → InTable (planAt P p i) a → ⊥
+abbrev pub Disjoint : EnginePlan → EnginePlan → Type 0
+Disjoint q r = (a : ℕ) → InCode q a → InTable r a → ⊥
+
+abbrev pub CodeDisjoint : Profile → Plan → EnginePlan → Type 0
+CodeDisjoint P p q = (i : ℕ) → Disjoint q (planAt P p i)
 
 -- 13: the word is defined.
 abbrev pub Defined : Word → Type 0
@@ -87,7 +90,7 @@ NoUse Backward = ⊥
 
 abbrev pub UsesOwnTable : EnginePlan → TableUse → Type 0
 UsesOwnTable Unused u = NoUse u
-UsesOwnTable (Code f l) u = NoUse u
+UsesOwnTable (CodeOnly f l) u = NoUse u
 UsesOwnTable (CodeAndTable f l t b) u = UseInside t b u
 
 -- 16: with a table, the range begins with map-start or ld-start, then ld-end, both inside it.
@@ -109,7 +112,7 @@ isEnd Backward = false
 
 abbrev pub OpensTable : Profile → List ℕ → EnginePlan → Type 0
 OpensTable P image Unused = Unit {0}
-OpensTable P image (Code f l) = Unit {0}
+OpensTable P image (CodeOnly f l) = Unit {0}
 OpensTable P image (CodeAndTable f l t b) =
     (f .0 < l .0) × (isStart (tableUseOf (wordAt P image (f .0))) ≡ true) × (isEnd (tableUseOf (wordAt P image (f .0 + 1))) ≡ true)
 
@@ -124,8 +127,8 @@ RowClear P row = reservedBits P row ≡ 0
 -- The listed conditions together: the plan and the image are accepted.
 pub record Accepted (P : Profile) (p : Plan) (image : List ℕ) : Type 0 where
   pub complete : Complete P image
-  pub inOrder : (i : ℕ) → InOrder P (planAt P p i)
-  pub apart : (i : ℕ) → Apart P p (planAt P p i)
+  pub validRanges : (i : ℕ) → ValidRanges P (planAt P p i)
+  pub disjoint : (i : ℕ) → CodeDisjoint P p (planAt P p i)
   pub defined : (i a : ℕ) → InCode (planAt P p i) a → Defined (wordAt P image a)
   pub successors : (i a : ℕ) → InCode (planAt P p i) a → SuccessorsInside (planAt P p i) a (wordAt P image a)
   pub tableUse : (i a : ℕ) → InCode (planAt P p i) a → UsesOwnTable (planAt P p i) (tableUseOf (wordAt P image a))
@@ -136,8 +139,8 @@ pub record Accepted (P : Profile) (p : Plan) (image : List ℕ) : Type 0 where
 abbrev pub Condition : Profile → Plan → List ℕ → Verdict → Type 0
 Condition P p image Accept = Unit {0}
 Condition P p image WrongLength = Complete P image
-Condition P p image (OutOfOrder i) = InOrder P (planAt P p i)
-Condition P p image (CodeMeetsTable i) = Apart P p (planAt P p i)
+Condition P p image (InvalidRange i) = ValidRanges P (planAt P p i)
+Condition P p image (CodeOverlapsTable i) = CodeDisjoint P p (planAt P p i)
 Condition P p image (UndefinedWord i a) = Defined (wordAt P image (a .0))
 Condition P p image (SuccessorOutside i a) = SuccessorsInside (planAt P p i) (a .0) (wordAt P image (a .0))
 Condition P p image (TableMisused i a) = UsesOwnTable (planAt P p i) (tableUseOf (wordAt P image (a .0)))

@@ -6,14 +6,14 @@ use lib.ListN.{take, set, replicate}
 use Rattle.word.specs.Profile.{LP5523}
 use Rattle.word.specs.Steps.{addressAt}
 use Rattle.plan.specs.declared.EnginePlan.{EnginePlan}
-use Rattle.plan.specs.declared.EnginePlan.the-variants.{Unused, Code, CodeAndTable}
+use Rattle.plan.specs.declared.EnginePlan.the-variants.{Unused, CodeOnly, CodeAndTable}
 use Rattle.plan.specs.declared.Plan.{Plan}
 use Rattle.plan.specs.declared.Report.{Report}
 use Rattle.plan.specs.Verdict.{report, reportOf}
 use Rattle.plan.specs.Check.{checkOf}
 
 abbrev pub code : ℕ → ℕ → EnginePlan
-code f l = Code (addressAt f) (addressAt l)
+code f l = CodeOnly (addressAt f) (addressAt l)
 
 abbrev pub codeAndTable : ℕ → ℕ → ℕ → ℕ → EnginePlan
 codeAndTable f l t b = CodeAndTable (addressAt f) (addressAt l) (addressAt t) (addressAt b)

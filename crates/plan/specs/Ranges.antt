@@ -6,7 +6,7 @@ use lib.ListN.{getD, take}
 use Rattle.word.specs.Profile.{Profile, upward, enginesOf}
 use Rattle.word.specs.declared.Address.{Address}
 use Rattle.plan.specs.declared.EnginePlan.{EnginePlan}
-use Rattle.plan.specs.declared.EnginePlan.the-variants.{Unused, Code, CodeAndTable}
+use Rattle.plan.specs.declared.EnginePlan.the-variants.{Unused, CodeOnly, CodeAndTable}
 use Rattle.plan.specs.declared.Plan.{Plan}
 
 -- The plans of the engines that a chip has.
@@ -24,19 +24,19 @@ InRange f l a = (f .0 ≤ a) × (a ≤ l .0)
 -- The code addresses of an engine: its range.
 abbrev pub InCode : EnginePlan → ℕ → Type 0
 InCode Unused a = ⊥
-InCode (Code f l) a = InRange f l a
+InCode (CodeOnly f l) a = InRange f l a
 InCode (CodeAndTable f l t b) a = InRange f l a
 
 -- The table addresses of an engine: its rows.
 abbrev pub InTable : EnginePlan → ℕ → Type 0
 InTable Unused a = ⊥
-InTable (Code f l) a = ⊥
+InTable (CodeOnly f l) a = ⊥
 InTable (CodeAndTable f l t b) a = InRange t b a
 
 -- The engine's first code address.
 abbrev pub firstOf : EnginePlan → ℕ
 firstOf Unused = 0
-firstOf (Code f l) = f .0
+firstOf (CodeOnly f l) = f .0
 firstOf (CodeAndTable f l t b) = f .0
 
 -- The addresses from f to l, upward.
@@ -45,10 +45,10 @@ addresses f l = upward (f .0) (l .0 + 1 - f .0)
 
 abbrev pub codeAddresses : EnginePlan → List ℕ
 codeAddresses Unused = []
-codeAddresses (Code f l) = addresses f l
+codeAddresses (CodeOnly f l) = addresses f l
 codeAddresses (CodeAndTable f l t b) = addresses f l
 
 abbrev pub tableAddresses : EnginePlan → List ℕ
 tableAddresses Unused = []
-tableAddresses (Code f l) = []
+tableAddresses (CodeOnly f l) = []
 tableAddresses (CodeAndTable f l t b) = addresses t b

@@ -12,40 +12,40 @@ use Rattle.word.specs.declared.Flow.{Flow}
 use Rattle.word.specs.declared.TableUse.{TableUse}
 use Rattle.word.specs.declared.TableUse.the-variants.{Nothing, StartAt, EndAt, RowAt, Forward, Backward}
 use Rattle.plan.specs.declared.EnginePlan.{EnginePlan}
-use Rattle.plan.specs.declared.EnginePlan.the-variants.{Unused, Code, CodeAndTable}
+use Rattle.plan.specs.declared.EnginePlan.the-variants.{Unused, CodeOnly, CodeAndTable}
 use Rattle.plan.specs.declared.Plan.{Plan}
 use Rattle.plan.specs.declared.Verdict.{Verdict}
-use Rattle.plan.specs.declared.Verdict.the-variants.{Accept, WrongLength, OutOfOrder, CodeMeetsTable, UndefinedWord, SuccessorOutside, TableMisused, TableNotOpened, ReservedRowBit}
+use Rattle.plan.specs.declared.Verdict.the-variants.{Accept, WrongLength, InvalidRange, CodeOverlapsTable, UndefinedWord, SuccessorOutside, TableMisused, TableNotOpened, ReservedRowBit}
 use Rattle.plan.specs.Ranges.{enginePlans, planAt, firstOf}
 use Rattle.word.specs.Decode.{wordAt}
 use Rattle.plan.specs.Conditions.{successorsOf, isStart, isEnd, reservedBits}
 
 -- 11
-abbrev pub ordered : Profile → Address → Address → Bool
-ordered P a b = leb (a .0) (b .0) && ltb (b .0) (wordsOf P)
+abbrev pub validRange : Profile → Address → Address → Bool
+validRange P a b = leb (a .0) (b .0) && ltb (b .0) (wordsOf P)
 
-abbrev pub inOrder : Profile → EnginePlan → Bool
-inOrder P Unused = true
-inOrder P (Code f l) = ordered P f l
-inOrder P (CodeAndTable f l t b) = ordered P f l && ordered P t b
+abbrev pub validRanges : Profile → EnginePlan → Bool
+validRanges P Unused = true
+validRanges P (CodeOnly f l) = validRange P f l
+validRanges P (CodeAndTable f l t b) = validRange P f l && validRange P t b
 
 -- 12: both ranges have addresses, and neither lies beyond the other.
 abbrev pub overlap : Address → Address → Address → Address → Bool
 overlap f l t b = leb (f .0) (l .0) && (leb (t .0) (b .0) && (leb (f .0) (b .0) && leb (t .0) (l .0)))
 
-abbrev pub codeMeets : EnginePlan → Address → Address → Bool
-codeMeets Unused t b = false
-codeMeets (Code f l) t b = overlap f l t b
-codeMeets (CodeAndTable f l t′ b′) t b = overlap f l t b
+abbrev pub codeOverlaps : EnginePlan → Address → Address → Bool
+codeOverlaps Unused t b = false
+codeOverlaps (CodeOnly f l) t b = overlap f l t b
+codeOverlaps (CodeAndTable f l t′ b′) t b = overlap f l t b
 
-abbrev pub meets : EnginePlan → EnginePlan → Bool
-meets q Unused = false
-meets q (Code f l) = false
-meets q (CodeAndTable f l t b) = codeMeets q t b
+abbrev pub overlaps : EnginePlan → EnginePlan → Bool
+overlaps q Unused = false
+overlaps q (CodeOnly f l) = false
+overlaps q (CodeAndTable f l t b) = codeOverlaps q t b
 
-abbrev pub meetsAny : EnginePlan → List EnginePlan → Bool
-meetsAny q [] = false
-meetsAny q (r ∷ rs) = meets q r || meetsAny q rs
+abbrev pub overlapsAny : EnginePlan → List EnginePlan → Bool
+overlapsAny q [] = false
+overlapsAny q (r ∷ rs) = overlaps q r || overlapsAny q rs
 
 -- 14
 abbrev pub inRange : Address → Address → ℕ → Bool
@@ -53,7 +53,7 @@ inRange f l a = leb (f .0) a && leb a (l .0)
 
 abbrev pub inCode : EnginePlan → ℕ → Bool
 inCode Unused a = false
-inCode (Code f l) a = inRange f l a
+inCode (CodeOnly f l) a = inRange f l a
 inCode (CodeAndTable f l t b) a = inRange f l a
 
 abbrev pub allIn : (ℕ → Bool) → List ℕ → Bool
@@ -82,13 +82,13 @@ noUse Backward = false
 
 abbrev pub usesOwnTable : EnginePlan → TableUse → Bool
 usesOwnTable Unused u = noUse u
-usesOwnTable (Code f l) u = noUse u
+usesOwnTable (CodeOnly f l) u = noUse u
 usesOwnTable (CodeAndTable f l t b) u = useInside t b u
 
 -- 16
 abbrev pub opensTable : Profile → List ℕ → EnginePlan → Bool
 opensTable P image Unused = true
-opensTable P image (Code f l) = true
+opensTable P image (CodeOnly f l) = true
 opensTable P image (CodeAndTable f l t b) =
     ltb (f .0) (l .0) && (isStart (tableUseOf (wordAt P image (f .0))) && isEnd (tableUseOf (wordAt P image (f .0 + 1))))
 
@@ -100,8 +100,8 @@ rowClear P row = eqb (reservedBits P row) 0
 abbrev pub holds : Profile → Plan → List ℕ → Verdict → Bool
 holds P p image Accept = true
 holds P p image WrongLength = eqb (length image) (wordsOf P)
-holds P p image (OutOfOrder i) = inOrder P (planAt P p i)
-holds P p image (CodeMeetsTable i) = not (meetsAny (planAt P p i) (enginePlans P p))
+holds P p image (InvalidRange i) = validRanges P (planAt P p i)
+holds P p image (CodeOverlapsTable i) = not (overlapsAny (planAt P p i) (enginePlans P p))
 holds P p image (UndefinedWord i a) = not (isUndefined (wordAt P image (a .0)))
 holds P p image (SuccessorOutside i a) = successorsInside (planAt P p i) (a .0) (flowOf (wordAt P image (a .0)))
 holds P p image (TableMisused i a) = usesOwnTable (planAt P p i) (tableUseOf (wordAt P image (a .0)))

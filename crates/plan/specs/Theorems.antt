@@ -7,7 +7,7 @@ use mathlib.Core.Path.{_≡_}
 use Rattle.word.specs.Profile.{Profile}
 use Rattle.plan.specs.declared.Plan.{Plan}
 use Rattle.plan.specs.declared.Verdict.{Verdict}
-use Rattle.plan.specs.declared.Verdict.the-variants.{Accept, WrongLength, OutOfOrder, CodeMeetsTable, UndefinedWord, SuccessorOutside, TableMisused, TableNotOpened, ReservedRowBit}
+use Rattle.plan.specs.declared.Verdict.the-variants.{Accept, WrongLength, InvalidRange, CodeOverlapsTable, UndefinedWord, SuccessorOutside, TableMisused, TableNotOpened, ReservedRowBit}
 use Rattle.plan.specs.Ranges.{planAt, firstOf, InCode, InTable}
 use Rattle.plan.specs.Conditions.{Accepted, Condition}
 use Rattle.plan.specs.Tests.{holds}
@@ -30,8 +30,8 @@ AllOf F (v ∷ vs) = F v × AllOf F vs
 abbrev pub Located : Profile → Plan → Verdict → Type 0
 Located P p Accept = Unit {0}
 Located P p WrongLength = Unit {0}
-Located P p (OutOfOrder i) = Unit {0}
-Located P p (CodeMeetsTable i) = Unit {0}
+Located P p (InvalidRange i) = Unit {0}
+Located P p (CodeOverlapsTable i) = Unit {0}
 Located P p (UndefinedWord i a) = InCode (planAt P p i) (a .0)
 Located P p (SuccessorOutside i a) = InCode (planAt P p i) (a .0)
 Located P p (TableMisused i a) = InCode (planAt P p i) (a .0)

@@ -6,7 +6,7 @@ use word::Address;
 // table, top to bottom. Equal plans are equal values.
 pub enum EnginePlan {
     Unused,
-    Code {
+    CodeOnly {
         first: Address,
         last: Address,
     },
@@ -31,9 +31,9 @@ pub enum Verdict {
     // the image doesn't have as many words as the chip
     WrongLength,
     // first above last, top above bottom, or past the memory
-    OutOfOrder { engine: u16 },
+    InvalidRange { engine: u16 },
     // a code address of this engine is also a table address
-    CodeMeetsTable { engine: u16 },
+    CodeOverlapsTable { engine: u16 },
     UndefinedWord { engine: u16, address: Address },
     // a successor of this word lies outside the engine's code
     SuccessorOutside { engine: u16, address: Address },

@@ -20,7 +20,7 @@ pub fn line_report_of(read: Assembled) -> LineReport
         Assembled::UnknownOp { line } => reported(21, line),
         Assembled::OutsideField { line } => reported(22, line),
         Assembled::WrongLineCount => reported(23, 0),
-        Assembled::OutOfOrder => reported(11, 0),
-        Assembled::CodeMeetsTable => reported(12, 0),
+        Assembled::InvalidRange => reported(11, 0),
+        Assembled::CodeOverlapsTable => reported(12, 0),
     }
 }

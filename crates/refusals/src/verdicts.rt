@@ -21,8 +21,8 @@ pub fn report_of(verdict: Verdict) -> Report
     match verdict {
         Verdict::Accept => reported(0, 0, Address(0)),
         Verdict::WrongLength => reported(9, 0, Address(0)),
-        Verdict::OutOfOrder { engine } => reported(11, engine, Address(0)),
-        Verdict::CodeMeetsTable { engine } => reported(12, engine, Address(0)),
+        Verdict::InvalidRange { engine } => reported(11, engine, Address(0)),
+        Verdict::CodeOverlapsTable { engine } => reported(12, engine, Address(0)),
         Verdict::UndefinedWord { engine, address } => reported(13, engine, address),
         Verdict::SuccessorOutside { engine, address } => reported(14, engine, address),
         Verdict::TableMisused { engine, address } => reported(15, engine, address),

@@ -7,7 +7,7 @@ ghost use mathlib.Core.Bool.{false, cond, _||_};
 ghost use mathlib.Core.Path.{_≡_};
 ghost use Rattle.word.specs.Profile.{LP5523};
 ghost use Rattle.plan.specs.Tests.{inRange, inCode};
-ghost use Rattle.asm.specs.Places.{inTable, lineKindAt, ownerAt, lineOf};
+ghost use Rattle.asm.specs.Places.{inTable, lineKindAt, ownerAt, encodingOf};
 
 fn in_range(first: Address, last: Address, a: u16) -> bool
     ensures { λ r. ⌜ r ≡ inRange first last a ⌝ }
@@ -23,7 +23,7 @@ fn in_code(q: EnginePlan, a: u16) -> bool
 {
     match q {
         EnginePlan::Unused => false,
-        EnginePlan::Code { first, last } => in_range(first, last, a),
+        EnginePlan::CodeOnly { first, last } => in_range(first, last, a),
         EnginePlan::CodeAndTable {
             first,
             last,
@@ -38,7 +38,7 @@ fn in_table(q: EnginePlan, a: u16) -> bool
 {
     match q {
         EnginePlan::Unused => false,
-        EnginePlan::Code { first: _, last: _ } => false,
+        EnginePlan::CodeOnly { first: _, last: _ } => false,
         EnginePlan::CodeAndTable {
             first: _,
             last: _,
@@ -105,7 +105,7 @@ pub fn owner_at(plan: Plan, a: u16) -> u16
 
 // The words stand after three plan lines, and lines are counted from 1.
 pub fn line_of(a: u16) -> u32
-    ensures { λ r. ⌜ r ≡ lineOf LP5523 a ⌝ }
+    ensures { λ r. ⌜ r ≡ encodingOf LP5523 a ⌝ }
 {
     a as u32 + 4
 }

@@ -10,7 +10,7 @@ use Rattle.laws.proofs.Tests.{and-false, and-left, and-right, or-false}
 use Rattle.word.specs.Profile.{Profile, LP5523, wordsOf, allEngines, Range, _to_, outputRanges}
 use Rattle.word.specs.Field.{upto, inside, rangesOf}
 use Rattle.word.specs.Answer.{Answer, success, refusal}
-use Rattle.word.specs.Table.{Operand, Line, line, none, fits, every, encodeLine}
+use Rattle.word.specs.Table.{Operand, Encoding, line, none, fits, every, encodeLine}
 use Rattle.word.specs.Theorems.{operandsIn, Between, AllWithin}
 
 -- ---- a number and the first of some ranges
@@ -72,7 +72,7 @@ all-within P (o ∷ os) e =
     (f, between (rangesOf P (o .field)) (o .value) f, all-within P os (and-right (fits P o) _ e))
 
 -- ---- a coded word: its operands are within their fields, and its line's code is the word
-abbrev pub codeIn : Line → ℕ
+abbrev pub codeIn : Encoding → ℕ
 codeIn (line os w) = w
 codeIn none = 0
 
@@ -80,7 +80,7 @@ coded : (b : Bool) (c w : ℕ) → cond b (success c) (refusal 22) ≡ success w
 coded true c w e = (refl, ap (λ (r : Answer). r .code) e)
 coded false c w e = let n : _≡_ {A = ℕ} 22 0 = ap (λ (r : Answer). r .number) e in absurd (omega arith)
 
-pub parts : (P : Profile) (l : Line) (w : ℕ) → encodeLine P l ≡ success w → AllWithin P (operandsIn l) × (codeIn l ≡ w)
+pub parts : (P : Profile) (l : Encoding) (w : ℕ) → encodeLine P l ≡ success w → AllWithin P (operandsIn l) × (codeIn l ≡ w)
 parts P (line os c) w e = let h = coded (every (map (fits P) os)) c w e in (all-within P os (h .0), h .1)
 parts P none w e = let n : _≡_ {A = ℕ} 13 0 = ap (λ (r : Answer). r .number) e in absurd (omega arith)
 

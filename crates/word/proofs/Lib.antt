@@ -1,5 +1,5 @@
 pub mod Fields
 pub mod Bases
-pub mod Rows
+pub mod Candidates
 pub mod Theorems
 pub mod Later

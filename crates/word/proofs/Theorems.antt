@@ -19,12 +19,12 @@ use Rattle.word.specs.declared.Word.the-variants.{Rst, Ramp, Wait, Set, 
 use Rattle.word.specs.Profile.{Profile}
 use Rattle.word.specs.Field.{inside}
 use Rattle.word.specs.Answer.{Answer, success, refusal}
-use Rattle.word.specs.Table.{Operand, Line, line, none, lineOf, fits, every, encodeLine, encodeOf}
-use Rattle.word.specs.Decode.{choose, ramps, rampVars, sums, rows, reading, isSuccess, decodeOf}
+use Rattle.word.specs.Table.{Operand, Encoding, line, none, encodingOf, fits, every, encodeLine, encodeOf}
+use Rattle.word.specs.Decode.{choose, ramps, rampVars, sums, candidates, reading, isSuccess, decodeOf}
 use Rattle.word.specs.Steps.{stepAt, addressAt}
 use Rattle.word.specs.Theorems.{EncodedDecodes, OneWordPerCode, SixteenBits, DecodedEncodes, UndefinedExactly, operandsIn, operandsOf, SomeOutside, here, later, Refuses13, Refuses22, RefusesUpByZero, Succeeds, AllWithin, OperandsWithin, AddressWithin, StepWithin}
 use Rattle.word.proofs.Fields.{codeIn, parts, words-fit, words-positive, engines-fit, outputs-fit}
-use Rattle.word.proofs.Rows.{chosen, past, read-row}
+use Rattle.word.proofs.Candidates.{chosen, past, read-row}
 
 -- a case of two or three operands, from what its operands are
 ap₂ : {A : Type 0} (f : ℕ → ℕ → A) {a a′ b b′ : ℕ} → (a ≡ a′) × (b ≡ b′) → f a b ≡ f a′ b′
@@ -54,7 +54,7 @@ no-operand : (c : ℕ) {i : Word} {w : ℕ} → Unit {0} × (c ≡ w) → readin
 no-operand c h r = rw (← h .1) r
 
 -- a word's place in the table promises the case that it encodes, and its bits are the operands
-reads : (P : Profile) (i : Word) (w : ℕ) → AllWithin P (operandsIn (lineOf i)) × (codeIn (lineOf i) ≡ w) → (i ≡ Undefined → ⊥) → reading w ≡ i
+reads : (P : Profile) (i : Word) (w : ℕ) → AllWithin P (operandsIn (encodingOf i)) × (codeIn (encodingOf i) ≡ w) → (i ≡ Undefined → ⊥) → reading w ≡ i
 unfolding reading
 reads P Rst w h u = no-operand 0x0000 h refl
 reads P (Ramp p t Up n) w h u =
@@ -104,7 +104,7 @@ not-undefined P i w e u = let n : _≡_ {A = ℕ} 13 0 = number (sym (ap (encode
 -- ---- 1
 pub encoded-decodes : EncodedDecodes
 unfolding decodeOf
-encoded-decodes P i w e = simp (reads P i w (parts P (lineOf i) w e) (not-undefined P i w e), e, eq-eqb w w refl)
+encoded-decodes P i w e = simp (reads P i w (parts P (encodingOf i) w e) (not-undefined P i w e), e, eq-eqb w w refl)
 
 pub one-word-per-code : OneWordPerCode
 one-word-per-code P i j w e f = sym (encoded-decodes P i w e) ∙ encoded-decodes P j w f
@@ -112,12 +112,12 @@ one-word-per-code P i j w e f = sym (encoded-decodes P i w e) ∙ encoded-decode
 -- past the last row nothing is promised
 beyond : (w : ℕ) → 0x10000 ≤ w → reading w ≡ Undefined
 unfolding reading
-beyond w h = past (rows w) 0 w refl h
+beyond w h = past (candidates w) 0 w refl h
 
 below-16-bits : (P : Profile) (i : Word) (w : ℕ) → encodeOf P i ≡ success w → (b : Bool) → ltb w 0x10000 ≡ b → w < 0x10000
 below-16-bits P i w e true t = ltb-true w 0x10000 t
 below-16-bits P i w e false t =
-    let r = reads P i w (parts P (lineOf i) w e) (not-undefined P i w e) in
+    let r = reads P i w (parts P (encodingOf i) w e) (not-undefined P i w e) in
     absurd (not-undefined P i w e (sym r ∙ beyond w (ltb-false w 0x10000 t)))
 
 pub sixteen-bits : SixteenBits
@@ -151,7 +151,7 @@ undefined-exactly P w = (
 )
 
 -- ---- 4
-only-undefined : (i : Word) → lineOf i ≡ none → i ≡ Undefined
+only-undefined : (i : Word) → encodingOf i ≡ none → i ≡ Undefined
 only-undefined Rst e = cc
 only-undefined (Ramp p t Up n) e = cc
 only-undefined (Ramp p t Down n) e = cc
@@ -178,12 +178,12 @@ never-13 : (b : Bool) (w : ℕ) → cond b (success w) (refusal 22) .number ≡ 
 never-13 true w e = omega arith
 never-13 false w e = omega arith
 
-no-line : (P : Profile) (l : Line) → encodeLine P l .number ≡ 13 → l ≡ none
+no-line : (P : Profile) (l : Encoding) → encodeLine P l .number ≡ 13 → l ≡ none
 no-line P (line os w) e = absurd (never-13 (every (map (fits P) os)) w e)
 no-line P none e = refl
 
 pub refuses-13 : Refuses13
-refuses-13 P i = (λ e. only-undefined i (no-line P (lineOf i) e), λ u. number (ap (encodeOf P) u))
+refuses-13 P i = (λ e. only-undefined i (no-line P (encodingOf i) e), λ u. number (ap (encodeOf P) u))
 
 first-outside : (P : Profile) (o : Operand) (os : List Operand) (b : Bool) → fits P o ≡ b → (b && every (map (fits P) os)) ≡ false
     → (every (map (fits P) os) ≡ false → SomeOutside P os) → SomeOutside P (o ∷ os)
@@ -202,7 +202,7 @@ only-22 : (P : Profile) (os : List Operand) (w : ℕ) (b : Bool) → every (map 
 only-22 P os w true f e = absurd (omega arith)
 only-22 P os w false f e = some-outside P os f
 
-refuses-22-at : (P : Profile) (l : Line) → (encodeLine P l .number ≡ 22) ↔ SomeOutside P (operandsIn l)
+refuses-22-at : (P : Profile) (l : Encoding) → (encodeLine P l .number ≡ 22) ↔ SomeOutside P (operandsIn l)
 refuses-22-at P (line os w) = (
   only-22 P os w (every (map (fits P) os)) refl,
   λ s. ap (λ (b : Bool). cond b (success w) (refusal 22) .number) (not-every P s),
@@ -210,7 +210,7 @@ refuses-22-at P (line os w) = (
 refuses-22-at P none = (λ e. absurd (omega arith), λ s. absurd (true≢false (not-every P s)))
 
 pub refuses-22 : Refuses22
-refuses-22 P i = refuses-22-at P (lineOf i)
+refuses-22 P i = refuses-22-at P (encodingOf i)
 
 pub refuses-up-by-zero : RefusesUpByZero
 unfolding inside
@@ -220,16 +220,16 @@ all-fit : (P : Profile) (os : List Operand) (c : ℕ) (b : Bool) → every (map 
 all-fit P os c true e n = (c, refl)
 all-fit P os c false e n = absurd (n (some-outside P os e))
 
-succeeds-at : (P : Profile) (l : Line) → (l ≡ none → ⊥) → (SomeOutside P (operandsIn l) → ⊥) → (w : ℕ) × (encodeLine P l ≡ success w)
+succeeds-at : (P : Profile) (l : Encoding) → (l ≡ none → ⊥) → (SomeOutside P (operandsIn l) → ⊥) → (w : ℕ) × (encodeLine P l ≡ success w)
 succeeds-at P (line os c) u n = all-fit P os c (every (map (fits P) os)) refl n
 succeeds-at P none u n = absurd (u refl)
 
 pub succeeds : Succeeds
-succeeds P i u n = succeeds-at P (lineOf i) (λ e. u (only-undefined i e)) n
+succeeds P i u n = succeeds-at P (encodingOf i) (λ e. u (only-undefined i e)) n
 
 -- ---- 5
 within-kept : (P : Profile) (w : ℕ) (i : Word) (b : Bool) → isSuccess (encodeOf P i) w ≡ b → AllWithin P (operandsOf (cond b i Undefined))
-within-kept P w i true q = parts P (lineOf i) w (is-success (encodeOf P i) w q) .0
+within-kept P w i true q = parts P (encodingOf i) w (is-success (encodeOf P i) w q) .0
 within-kept P w i false q = tt
 
 within-decoded : (P : Profile) (w : ℕ) → AllWithin P (operandsOf (decodeOf P w))

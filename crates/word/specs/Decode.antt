@@ -19,35 +19,35 @@ use Rattle.word.specs.Steps.{stepAt, addressAt}
 use Rattle.word.specs.Answer.{Answer}
 use Rattle.word.specs.Table.{encodeOf}
 
--- A case, for keys below a limit and not below the limit of the row before.
-pub record Row : Type 0 where
+-- A case, for keys below a limit and not below the limit of the candidate before.
+pub record Candidate : Type 0 where
   pub limit : ℕ
   pub case : Word
 
 infix 70 _below_
-abbrev pub _below_ : Word → ℕ → Row
+abbrev pub _below_ : Word → ℕ → Candidate
 i below n = record { limit = n; case = i }
 
--- The first row whose limit is above the key.
-abbrev pub choose : ℕ → List Row → Word
+-- The first candidate whose limit is above the key.
+abbrev pub choose : ℕ → List Candidate → Word
 choose k [] = Undefined
 choose k (r ∷ rs) = cond (ltb k (r .limit)) (r .case) (choose k rs)
 
 -- Wait and ramp, by the sign and the count.
-abbrev pub ramps : ℕ → List Row
+abbrev pub ramps : ℕ → List Candidate
 ramps w =
     Wait (w / 16384 % 2) (w / 512 % 32) below 1 ∷
     Ramp (w / 16384 % 2) (w / 512 % 32) Up (w % 256) below 256 ∷
     Ramp (w / 16384 % 2) (w / 512 % 32) Down (w % 256) below 512 ∷ []
 
 -- Ramps by variables, by the sign.
-abbrev pub rampVars : ℕ → List Row
+abbrev pub rampVars : ℕ → List Candidate
 rampVars w =
     RampVar (w / 32 % 2) Up (w / 4 % 4) (w % 4) below 16 ∷
     RampVar (w / 32 % 2) Down (w / 4 % 4) (w % 4) below 32 ∷ []
 
 -- Words that write a variable, by the bits under its number.
-abbrev pub sums : ℕ → List Row
+abbrev pub sums : ℕ → List Candidate
 sums w =
     Arith Ld (w / 1024 % 4) (w % 256) below 0x100 ∷
     Arith Add (w / 1024 % 4) (w % 256) below 0x200 ∷
@@ -55,8 +55,8 @@ sums w =
     ArithVar AddVar (w / 1024 % 4) (w / 4 % 4) (w % 4) below 0x310 ∷
     ArithVar SubVar (w / 1024 % 4) (w / 4 % 4) (w % 4) below 0x400 ∷ []
 
-abbrev pub rows : ℕ → List Row
-rows w =
+abbrev pub candidates : ℕ → List Candidate
+candidates w =
     Rst below 0x0200 ∷
     choose (w % 512) (ramps w) below 0x4000 ∷
     Set (w % 256) below 0x4200 ∷
@@ -88,7 +88,7 @@ rows w =
 
 -- The case that a word's place in the table promises.
 unfoldable pub reading : ℕ → Word
-reading w = choose w (rows w)
+reading w = choose w (candidates w)
 
 -- Whether an answer is the word w.
 abbrev pub isSuccess : Answer → ℕ → Bool

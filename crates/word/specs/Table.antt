@@ -29,9 +29,9 @@ abbrev pub _within_ : ℕ → Field → Operand
 n within f = record { value = n; field = f }
 
 -- A line of the table: a word's operands, and its code.
-pub data Line : Type 0 where
-  line : List Operand → ℕ → Line
-  none : Line
+pub data Encoding : Type 0 where
+  line : List Operand → ℕ → Encoding
+  none : Encoding
 
 -- The bases of the lines that several operations share.
 abbrev pub jumpBase : JumpOp → ℕ
@@ -62,32 +62,32 @@ muxMoveCode MuxLdNext = 0x9D81
 muxMoveCode MuxMapPrev = 0x9DC0
 muxMoveCode MuxLdPrev = 0x9DC1
 
-abbrev pub lineOf : Word → Line
-lineOf Rst = line [] 0x0000
+abbrev pub encodingOf : Word → Encoding
+encodingOf Rst = line [] 0x0000
 -- bit 14 p, bits 13:9 t, bit 8 sign, bits 7:0 n; down if sign is 1
-lineOf (Ramp p t Up n) = line (p within flag ∷ t within time ∷ n within rise ∷ []) (0x0000 + 0x4000 * p + 0x200 * t + n)
-lineOf (Ramp p t Down n) = line (p within flag ∷ t within time ∷ n within byte ∷ []) (0x0100 + 0x4000 * p + 0x200 * t + n)
+encodingOf (Ramp p t Up n) = line (p within flag ∷ t within time ∷ n within rise ∷ []) (0x0000 + 0x4000 * p + 0x200 * t + n)
+encodingOf (Ramp p t Down n) = line (p within flag ∷ t within time ∷ n within byte ∷ []) (0x0100 + 0x4000 * p + 0x200 * t + n)
 -- the same, sign 0, n 0
-lineOf (Wait p t) = line (p within flag ∷ t within time ∷ []) (0x0000 + 0x4000 * p + 0x200 * t)
-lineOf (Set n) = line (n within byte ∷ []) (0x4000 + n)
+encodingOf (Wait p t) = line (p within flag ∷ t within time ∷ []) (0x0000 + 0x4000 * p + 0x200 * t)
+encodingOf (Set n) = line (n within byte ∷ []) (0x4000 + n)
 -- 8400+32p+16sign+4l+r
-lineOf (RampVar p Up l r) = line (p within flag ∷ l within variable ∷ r within variable ∷ []) (0x8400 + 32 * p + 4 * l + r)
-lineOf (RampVar p Down l r) = line (p within flag ∷ l within variable ∷ r within variable ∷ []) (0x8400 + 16 + 32 * p + 4 * l + r)
-lineOf (SetVar v) = line (v within variable ∷ []) (0x8460 + v)
-lineOf (BranchVar v s) = line (s .0 within step ∷ v within variable ∷ []) (0x8600 + 4 * s .0 + v)
-lineOf (Jump o k l r) = line (k within skip ∷ l within variable ∷ r within variable ∷ []) (jumpBase o + 16 * k + 4 * l + r)
-lineOf (Arith o v n) = line (v within target ∷ n within byte ∷ []) (arithBase o + 1024 * v + n)
-lineOf (ArithVar o v l r) = line (v within target ∷ l within variable ∷ r within variable ∷ []) (arithVarBase o + 1024 * v + 4 * l + r)
-lineOf (MuxAt o a) = line (a .0 within address ∷ []) (muxAtBase o + a .0)
-lineOf MuxClr = line [] 0x9D00
-lineOf (MuxSel k) = line (k within output ∷ []) (0x9D00 + k)
-lineOf (MuxMove o) = line [] (muxMoveCode o)
-lineOf (Branch c s) = line (c within loops ∷ s .0 within step ∷ []) (0xA000 + 128 * c + s .0)
-lineOf (End i z) = line (i within flag ∷ z within flag ∷ []) (0xC000 + 4096 * i + 2048 * z)
-lineOf Int = line [] 0xC400
-lineOf (Trigger w x) = line (w within triggers ∷ x within triggers ∷ []) (0xE000 + 128 * w + 2 * x)
+encodingOf (RampVar p Up l r) = line (p within flag ∷ l within variable ∷ r within variable ∷ []) (0x8400 + 32 * p + 4 * l + r)
+encodingOf (RampVar p Down l r) = line (p within flag ∷ l within variable ∷ r within variable ∷ []) (0x8400 + 16 + 32 * p + 4 * l + r)
+encodingOf (SetVar v) = line (v within variable ∷ []) (0x8460 + v)
+encodingOf (BranchVar v s) = line (s .0 within step ∷ v within variable ∷ []) (0x8600 + 4 * s .0 + v)
+encodingOf (Jump o k l r) = line (k within skip ∷ l within variable ∷ r within variable ∷ []) (jumpBase o + 16 * k + 4 * l + r)
+encodingOf (Arith o v n) = line (v within target ∷ n within byte ∷ []) (arithBase o + 1024 * v + n)
+encodingOf (ArithVar o v l r) = line (v within target ∷ l within variable ∷ r within variable ∷ []) (arithVarBase o + 1024 * v + 4 * l + r)
+encodingOf (MuxAt o a) = line (a .0 within address ∷ []) (muxAtBase o + a .0)
+encodingOf MuxClr = line [] 0x9D00
+encodingOf (MuxSel k) = line (k within output ∷ []) (0x9D00 + k)
+encodingOf (MuxMove o) = line [] (muxMoveCode o)
+encodingOf (Branch c s) = line (c within loops ∷ s .0 within step ∷ []) (0xA000 + 128 * c + s .0)
+encodingOf (End i z) = line (i within flag ∷ z within flag ∷ []) (0xC000 + 4096 * i + 2048 * z)
+encodingOf Int = line [] 0xC400
+encodingOf (Trigger w x) = line (w within triggers ∷ x within triggers ∷ []) (0xE000 + 128 * w + 2 * x)
 -- "Every other word is undefined."
-lineOf Undefined = none
+encodingOf Undefined = none
 
 -- Whether an operand fits its field.
 abbrev pub fits : Profile → Operand → Bool
@@ -102,9 +102,9 @@ abbrev pub judged : List Bool → ℕ → Answer
 judged bs w = cond (every bs) (success w) (refusal 22)
 
 -- "The encoder gives 22 for an operand outside its field or a ramp up by 0, and 13 for the undefined case."
-abbrev pub encodeLine : Profile → Line → Answer
+abbrev pub encodeLine : Profile → Encoding → Answer
 encodeLine P (line os w) = judged (map (fits P) os) w
 encodeLine P none = refusal 13
 
 abbrev pub encodeOf : Profile → Word → Answer
-encodeOf P i = encodeLine P (lineOf i)
+encodeOf P i = encodeLine P (encodingOf i)

@@ -13,7 +13,7 @@ use Rattle.word.specs.declared.Word.the-variants.{Ramp, BranchVar, MuxAt
 use Rattle.word.specs.Profile.{Profile, wordsOf, Range}
 use Rattle.word.specs.Field.{rangesOf}
 use Rattle.word.specs.Answer.{success}
-use Rattle.word.specs.Table.{Operand, Line, line, none, lineOf, fits, encodeOf}
+use Rattle.word.specs.Table.{Operand, Encoding, line, none, encodingOf, fits, encodeOf}
 use Rattle.word.specs.Decode.{decodeOf}
 
 -- 1. Whatever encodes to w decodes from w: no two words share a code, and no operand is ever shortened.
@@ -36,12 +36,12 @@ abbrev pub UndefinedExactly : Type 0
 UndefinedExactly = (P : Profile) (w : ℕ) → (decodeOf P w ≡ Undefined) ↔ ((i : Word) → encodeOf P i ≡ success w → ⊥)
 
 -- The operands that a word's line of the table has.
-abbrev pub operandsIn : Line → List Operand
+abbrev pub operandsIn : Encoding → List Operand
 operandsIn (line os w) = os
 operandsIn none = []
 
 abbrev pub operandsOf : Word → List Operand
-operandsOf i = operandsIn (lineOf i)
+operandsOf i = operandsIn (encodingOf i)
 
 -- 4. The encoder answers 13 exactly for Undefined, and 22 exactly where some operand lies outside its field, as the count of a ramp up by 0
 -- does. Every other word has a code.

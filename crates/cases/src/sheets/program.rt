@@ -58,7 +58,7 @@ pub fn worded(s: State, parts: &[u8]) -> State {
 fn print_engine(q: EnginePlan) {
     match q {
         EnginePlan::Unused => print::text(b" unused,"),
-        EnginePlan::Code { first, last } => {
+        EnginePlan::CodeOnly { first, last } => {
             print::say(b" code $ $,", [first.0 as u32, last.0 as u32, 0, 0]);
         }
         EnginePlan::CodeAndTable {

@@ -13,7 +13,7 @@ ghost use Rattle.word.specs.Profile.{LP5523};
 ghost use Rattle.word.specs.Classes.{tableUseOf};
 ghost use Rattle.word.specs.Decode.{wordAt};
 ghost use Rattle.plan.specs.Conditions.{isStart, isEnd};
-ghost use Rattle.plan.specs.Tests.{inOrder, opensTable};
+ghost use Rattle.plan.specs.Tests.{validRanges, opensTable};
 ghost use Rattle.plan.specs.internal.Passes.{rowVerdict, rowsVerdict, tableVerdict};
 
 fn is_start(usage: TableUse) -> bool
@@ -88,7 +88,7 @@ fn check_rows(engine: u16, image: &[u16], top: Address, bottom: Address) -> Verd
 
 // 16 and 17.
 pub(super) fn check_table(q: EnginePlan, engine: u16, image: &[u16]) -> Verdict
-    requires { ⌜ (length (now image) ≡ 96) × (inOrder LP5523 q ≡ true) ⌝ }
+    requires { ⌜ (length (now image) ≡ 96) × (validRanges LP5523 q ≡ true) ⌝ }
     ensures { λ r. ⌜ r ≡ tableVerdict LP5523 q engine (now (image .entry)) ⌝ }
 {
     let EnginePlan::CodeAndTable {

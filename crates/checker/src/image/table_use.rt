@@ -44,7 +44,7 @@ pub(super) fn uses_own_table(q: EnginePlan, usage: TableUse) -> bool
 {
     match q {
         EnginePlan::Unused => no_use(usage),
-        EnginePlan::Code { first: _, last: _ } => no_use(usage),
+        EnginePlan::CodeOnly { first: _, last: _ } => no_use(usage),
         EnginePlan::CodeAndTable {
             first: _,
             last: _,

@@ -14,7 +14,7 @@ ghost use Prim.Native.Nat.{_+_, _-_, _<_};
 ghost use lib.ListN.{length};
 ghost use Rattle.word.specs.Profile.{LP5523};
 ghost use Rattle.word.specs.Decode.{decodeOf};
-ghost use Rattle.plan.specs.Tests.{inOrder};
+ghost use Rattle.plan.specs.Tests.{validRanges};
 ghost use Rattle.plan.specs.internal.Passes.{wordVerdict, wordsVerdict, codeVerdict};
 
 // 13, 14 and 15 of one word.
@@ -51,12 +51,12 @@ fn check_words(q: EnginePlan, engine: u16, image: &[u16], first: Address, last: 
 }
 
 pub(super) fn check_code(q: EnginePlan, engine: u16, image: &[u16]) -> Verdict
-    requires { ⌜ (length (now image) ≡ 96) × (inOrder LP5523 q ≡ true) ⌝ }
+    requires { ⌜ (length (now image) ≡ 96) × (validRanges LP5523 q ≡ true) ⌝ }
     ensures { λ r. ⌜ r ≡ codeVerdict LP5523 q engine (now (image .entry)) ⌝ }
 {
     match q {
         EnginePlan::Unused => Verdict::Accept,
-        EnginePlan::Code { first, last } => check_words(q, engine, image, first, last),
+        EnginePlan::CodeOnly { first, last } => check_words(q, engine, image, first, last),
         EnginePlan::CodeAndTable {
             first,
             last,

@@ -6,7 +6,7 @@ use Rattle.word.specs.Profile.{Profile}
 use Rattle.word.specs.Steps.{addressAt}
 use Rattle.word.specs.Classes.{isUndefined}
 use Rattle.plan.specs.declared.EnginePlan.{EnginePlan}
-use Rattle.plan.specs.declared.EnginePlan.the-variants.{Unused, Code, CodeAndTable}
+use Rattle.plan.specs.declared.EnginePlan.the-variants.{Unused, CodeOnly, CodeAndTable}
 use Rattle.plan.specs.declared.Plan.{Plan}
 use Rattle.plan.specs.declared.Verdict.{Verdict}
 use Rattle.plan.specs.declared.Verdict.the-variants.{Accept, UndefinedWord}
@@ -31,7 +31,7 @@ definedFrom P i image = scan (λ a. cond (not (isUndefined (wordAt P image a))) 
 
 unfoldable pub engineDefined : Profile → ℕ → EnginePlan → List ℕ → Verdict
 engineDefined P i Unused image = Accept
-engineDefined P i (Code f l) image = definedFrom P i image (f .0) (l .0 + 1 - f .0)
+engineDefined P i (CodeOnly f l) image = definedFrom P i image (f .0) (l .0 + 1 - f .0)
 engineDefined P i (CodeAndTable f l t b) image = definedFrom P i image (f .0) (l .0 + 1 - f .0)
 
 unfoldable pub planDefined : Profile → Plan → List ℕ → Verdict

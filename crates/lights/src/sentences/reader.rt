@@ -108,7 +108,7 @@ pub fn of_sheet(text: &[u8], read: Assembled) -> Message {
                 sheet_places::line_of(LAST_ADDRESS),
             ),
         ),
-        Assembled::OutOfOrder | Assembled::CodeMeetsTable => {
+        Assembled::InvalidRange | Assembled::CodeOverlapsTable => {
             // the checker gives the engine
             let plan = plan_of(text);
             let none = [0u16; 0];

@@ -65,7 +65,7 @@ fn head_of(origin: Origin, verdict: Verdict) -> Say {
     match verdict {
         Verdict::Accept => say_only(templates::NAMED),
         Verdict::WrongLength => say_one(templates::REFUSED_FILE, number),
-        Verdict::OutOfOrder { engine: _ } | Verdict::CodeMeetsTable { engine: _ } => {
+        Verdict::InvalidRange { engine: _ } | Verdict::CodeOverlapsTable { engine: _ } => {
             say_two(templates::REFUSED_ENGINE, number, engine)
         }
         Verdict::UndefinedWord { .. }
@@ -85,7 +85,7 @@ struct Range {
 fn of_stray(engine: u32, q: EnginePlan, address: Address, w: Word) -> Say {
     let r = match q {
         EnginePlan::Unused => Range { first: 0, last: 0 },
-        EnginePlan::Code { first, last }
+        EnginePlan::CodeOnly { first, last }
         | EnginePlan::CodeAndTable {
             first,
             last,
@@ -135,8 +135,8 @@ fn sentence(plan: Plan, image: &[u16], verdict: Verdict) -> Say {
     match verdict {
         Verdict::Accept => say_only(templates::ACCEPTED),
         Verdict::WrongLength => say_one(templates::IMAGE_LENGTH, WORDS as u32),
-        Verdict::OutOfOrder { engine: _ } => say_one(templates::OUT_OF_ORDER, LAST_ADDRESS),
-        Verdict::CodeMeetsTable { engine: _ } => say_only(templates::CODE_MEETS_TABLE),
+        Verdict::InvalidRange { engine: _ } => say_one(templates::OUT_OF_ORDER, LAST_ADDRESS),
+        Verdict::CodeOverlapsTable { engine: _ } => say_only(templates::CODE_MEETS_TABLE),
         Verdict::UndefinedWord {
             engine: _,
             address: _,

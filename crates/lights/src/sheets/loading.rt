@@ -71,7 +71,7 @@ fn with_memory(m: Chip, image: &[u16; WORDS]) -> Chip {
 fn start_of(q: EnginePlan) -> u8 {
     match q {
         EnginePlan::Unused => 0,
-        EnginePlan::Code { first, last: _ }
+        EnginePlan::CodeOnly { first, last: _ }
         | EnginePlan::CodeAndTable {
             first,
             last: _,

@@ -46,7 +46,7 @@ pub fn read(argument: &[u8]) -> Planned {
         return Planned::Malformed;
     };
     if code.len() == argument.len() {
-        return Planned::Plan(EnginePlan::Code { first, last });
+        return Planned::Plan(EnginePlan::CodeOnly { first, last });
     }
     let Range::From(top, bottom) = read_range(from(argument, code.len() + 1)) else {
         return Planned::Malformed;

@@ -9,15 +9,15 @@ use Rattle.word.specs.Steps.{addressAt}
 use Rattle.word.specs.Classes.{flowOf, tableUseOf, isUndefined}
 use Rattle.word.specs.declared.Word.{Word}
 use Rattle.plan.specs.declared.EnginePlan.{EnginePlan}
-use Rattle.plan.specs.declared.EnginePlan.the-variants.{Unused, Code, CodeAndTable}
+use Rattle.plan.specs.declared.EnginePlan.the-variants.{Unused, CodeOnly, CodeAndTable}
 use Rattle.plan.specs.declared.Plan.{Plan}
 use Rattle.plan.specs.declared.Verdict.{Verdict}
-use Rattle.plan.specs.declared.Verdict.the-variants.{Accept, OutOfOrder, CodeMeetsTable, UndefinedWord, SuccessorOutside, TableMisused, TableNotOpened, ReservedRowBit}
+use Rattle.plan.specs.declared.Verdict.the-variants.{Accept, InvalidRange, CodeOverlapsTable, UndefinedWord, SuccessorOutside, TableMisused, TableNotOpened, ReservedRowBit}
 use Rattle.plan.specs.declared.Stray.{Stray}
 use Rattle.plan.specs.declared.Stray.the-variants.{Inside, To}
 use Rattle.plan.specs.Ranges.{enginePlans, planAt}
 use Rattle.word.specs.Decode.{wordAt}
-use Rattle.plan.specs.Tests.{inOrder, meetsAny, successorsInside, usesOwnTable, opensTable, rowClear}
+use Rattle.plan.specs.Tests.{validRanges, overlapsAny, successorsInside, usesOwnTable, opensTable, rowClear}
 
 -- The first of two verdicts that refuses.
 unfoldable pub orElse : Verdict → Verdict → Verdict
@@ -29,21 +29,21 @@ scan f a zero = Accept
 scan f a (suc n) = orElse (f a) (scan f (a + 1) n)
 
 -- 11, of the three engines in turn.
-unfoldable pub orderVerdict : Profile → Plan → Verdict
-orderVerdict P p =
-    cond (inOrder P (planAt P p 1)) (cond (inOrder P (planAt P p 2)) (cond (inOrder P (planAt P p 3)) Accept (OutOfOrder 3)) (OutOfOrder 2)) (OutOfOrder 1)
+unfoldable pub validVerdict : Profile → Plan → Verdict
+validVerdict P p =
+    cond (validRanges P (planAt P p 1)) (cond (validRanges P (planAt P p 2)) (cond (validRanges P (planAt P p 3)) Accept (InvalidRange 3)) (InvalidRange 2)) (InvalidRange 1)
 
 -- Whether the code q meets a table of the plan.
-abbrev pub meetsSome : Profile → Plan → EnginePlan → Bool
-meetsSome P p q = meetsAny q (enginePlans P p)
+abbrev pub overlapsSome : Profile → Plan → EnginePlan → Bool
+overlapsSome P p q = overlapsAny q (enginePlans P p)
 
 -- 12, of the three engines in turn.
-unfoldable pub apartVerdict : Profile → Plan → Verdict
-apartVerdict P p =
+unfoldable pub overlapVerdict : Profile → Plan → Verdict
+overlapVerdict P p =
     cond
-    (not (meetsSome P p (planAt P p 1)))
-    (cond (not (meetsSome P p (planAt P p 2))) (cond (not (meetsSome P p (planAt P p 3))) Accept (CodeMeetsTable 3)) (CodeMeetsTable 2))
-    (CodeMeetsTable 1)
+    (not (overlapsSome P p (planAt P p 1)))
+    (cond (not (overlapsSome P p (planAt P p 2))) (cond (not (overlapsSome P p (planAt P p 3))) Accept (CodeOverlapsTable 3)) (CodeOverlapsTable 2))
+    (CodeOverlapsTable 1)
 
 -- 13, 14 and 15, of the word w at address a of engine i, whose plan is q.
 unfoldable pub wordVerdict : EnginePlan → ℕ → ℕ → Word → Verdict
@@ -68,13 +68,13 @@ rowsVerdict P i image = scan (λ a. rowVerdict P i a (getD image a 0))
 -- An engine's words.
 unfoldable pub codeVerdict : Profile → EnginePlan → ℕ → List ℕ → Verdict
 codeVerdict P Unused i image = Accept
-codeVerdict P (Code f l) i image = wordsVerdict P (Code f l) i image (f .0) (l .0 + 1 - f .0)
+codeVerdict P (CodeOnly f l) i image = wordsVerdict P (CodeOnly f l) i image (f .0) (l .0 + 1 - f .0)
 codeVerdict P (CodeAndTable f l t b) i image = wordsVerdict P (CodeAndTable f l t b) i image (f .0) (l .0 + 1 - f .0)
 
 -- 16, and an engine's rows.
 unfoldable pub tableVerdict : Profile → EnginePlan → ℕ → List ℕ → Verdict
 tableVerdict P Unused i image = Accept
-tableVerdict P (Code f l) i image = Accept
+tableVerdict P (CodeOnly f l) i image = Accept
 tableVerdict P (CodeAndTable f l t b) i image =
     cond (opensTable P image (CodeAndTable f l t b)) (rowsVerdict P i image (t .0) (b .0 + 1 - t .0)) (TableNotOpened i f)
 

@@ -11,7 +11,7 @@ use lib.ListN.{length}
 use Rattle.word.specs.Profile.{LP5523}
 use Rattle.asm.proofs.Assembled.{the-type}
 use Rattle.asm.specs.declared.Assembled.{Assembled}
-use Rattle.asm.specs.declared.Assembled.the-variants.{Program, WrongLength, Malformed, UnknownOp, OutsideField, WrongLineCount, OutOfOrder, CodeMeetsTable}
+use Rattle.asm.specs.declared.Assembled.the-variants.{Program, WrongLength, Malformed, UnknownOp, OutsideField, WrongLineCount, InvalidRange, CodeOverlapsTable}
 use Rattle.asm.specs.Answers.{readingOf}
 use Rattle.asm.specs.Reading.{Sheet, refused-at, readSheet, assembleOf, imageAfter}
 use Rattle.assembler.proofs.assembler.assemble.Statement.{statement}
@@ -41,8 +41,8 @@ kept ws image (Malformed l) h = (refl, refl)
 kept ws image (UnknownOp l) h = (refl, refl)
 kept ws image (OutsideField l) h = (refl, refl)
 kept ws image WrongLineCount h = (refl, refl)
-kept ws image OutOfOrder h = (refl, refl)
-kept ws image CodeMeetsTable h = (refl, refl)
+kept ws image InvalidRange h = (refl, refl)
+kept ws image CodeOverlapsTable h = (refl, refl)
 
 returns : tie.Need-returns
 returns c =

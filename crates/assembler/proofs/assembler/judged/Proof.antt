@@ -10,7 +10,7 @@ use Rattle.word.specs.Profile.{LP5523}
 use Rattle.plan.proofs.Verdict.{the-type}
 use Rattle.plan.specs.declared.Plan.{Plan}
 use Rattle.plan.specs.declared.Verdict.{Verdict}
-use Rattle.plan.specs.declared.Verdict.the-variants.{Accept, WrongLength, OutOfOrder, CodeMeetsTable, UndefinedWord, SuccessorOutside, TableMisused, TableNotOpened, ReservedRowBit}
+use Rattle.plan.specs.declared.Verdict.the-variants.{Accept, WrongLength, InvalidRange, CodeOverlapsTable, UndefinedWord, SuccessorOutside, TableMisused, TableNotOpened, ReservedRowBit}
 use Rattle.plan.specs.Verdict.{reportOf}
 use Rattle.plan.specs.Check.{checkRangesOf}
 use Rattle.asm.specs.Reading.{ranged}
@@ -26,8 +26,8 @@ keys = 0 ∷ 1 ∷ 4 ∷ 5 ∷ 6 ∷ 7 ∷ 8 ∷ []
 others : (v : Verdict) → OneOf keys (tagOf the-type v) → (reportOf v .number ≡ 11 → ⊥) × (reportOf v .number ≡ 12 → ⊥)
 others Accept h = (λ e. omega arith, λ e. omega arith)
 others WrongLength h = (λ e. omega arith, λ e. omega arith)
-others (OutOfOrder i) h = absurd (miss keys 2 tt h)
-others (CodeMeetsTable i) h = absurd (miss keys 3 tt h)
+others (InvalidRange i) h = absurd (miss keys 2 tt h)
+others (CodeOverlapsTable i) h = absurd (miss keys 3 tt h)
 others (UndefinedWord i a) h = (λ e. omega arith, λ e. omega arith)
 others (SuccessorOutside i a) h = (λ e. omega arith, λ e. omega arith)
 others (TableMisused i a) h = (λ e. omega arith, λ e. omega arith)

@@ -3,7 +3,7 @@ use mathlib.Core.Path.{sym, ap, _∙_}
 use Rattle.laws.proofs.Tests.{failed, passed}
 use Rattle.plan.specs.Verdict.{isAccept}
 use Rattle.plan.proofs.Laws.{stops, goes-on}
-use Rattle.plan.proofs.Passes.{wrong-length, right-length, all-in-order}
+use Rattle.plan.proofs.Passes.{wrong-length, right-length, all-valid-ranges}
 use Rattle.checker.proofs.image.check.Statement.{statement}
 use Rattle.checker.proofs.image.check.Tie as tie
 
@@ -19,7 +19,7 @@ check-spec =
     right-length _ _ (c2 .before .if1 .left) (stops _ (c2 .check-ranges .ensures) (failed (c .before .is-accept .ensures) (c .if2 .taken))))
     (λ c κs.
     let c2 = c .before in let c3 = c2 .before in
-    let o = all-in-order _ (sym (ap isAccept (c3 .check-ranges .ensures)) ∙ passed (c2 .is-accept .ensures) (c .if2 .left)) in
+    let o = all-valid-ranges _ (sym (ap isAccept (c3 .check-ranges .ensures)) ∙ passed (c2 .is-accept .ensures) (c .if2 .left)) in
     (c3 .before .if1 .left, o .0, o .1, o .2))
     (λ c.
     let c2 = c .before in let c3 = c2 .before in let c4 = c3 .before in

@@ -10,8 +10,8 @@ check-ranges-spec =
     (tie.spec
     (λ c κs. tt)
     (λ c κs. tt)
-    (λ c. ranges _ (stops _ (c .before .before .check-order .ensures) (failed (c .before .is-accept .ensures) (c .if1 .taken))))
+    (λ c. ranges _ (stops _ (c .before .before .check-valid .ensures) (failed (c .before .is-accept .ensures) (c .if1 .taken))))
     (λ c κs. tt)
     (λ c.
     ranges _
-    (goes-on (c .before .before .before .check-order .ensures) (passed (c .before .before .is-accept .ensures) (c .before .if1 .left)) (c .check-apart .ensures))))
+    (goes-on (c .before .before .before .check-valid .ensures) (passed (c .before .before .is-accept .ensures) (c .before .if1 .left)) (c .check-overlap .ensures))))

@@ -2,7 +2,7 @@
 use mathlib.Core.Path.{_∙_}
 use borrow.Author.Needs.{needs}
 use native.Mathlib.Omega.{arith}
-use Rattle.word.proofs.Rows.{row}
+use Rattle.word.proofs.Candidates.{row}
 use Rattle.decoder.proofs.decoder.from_0.Statement.{statement}
 use Rattle.decoder.proofs.decoder.from_0.Tie as tie
 

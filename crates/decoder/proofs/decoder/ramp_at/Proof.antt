@@ -3,7 +3,7 @@ use Prim.Native.Nat.{_%_}
 use mathlib.Core.Path.{refl}
 use native.Mathlib.Omega.{arith}
 use Rattle.word.specs.Decode.{ramps}
-use Rattle.word.proofs.Rows.{returned}
+use Rattle.word.proofs.Candidates.{returned}
 use Rattle.decoder.proofs.decoder.ramp_at.Statement.{statement}
 use Rattle.decoder.proofs.decoder.ramp_at.Tie as tie
 

@@ -1,7 +1,7 @@
 -- `decoder::decoder::read` meets its contract: the tests that led to a return bound the code. Assumes nothing.
 use borrow.Author.Needs.{needs}
 use native.Mathlib.Omega.{arith}
-use Rattle.word.proofs.Rows.{row}
+use Rattle.word.proofs.Candidates.{row}
 use Rattle.decoder.proofs.decoder.read.Statement.{statement}
 use Rattle.decoder.proofs.decoder.read.Tie as tie
 

@@ -4,7 +4,7 @@ use mathlib.Core.Path.{refl, _∙_}
 use borrow.Author.Needs.{needs}
 use native.Mathlib.Omega.{arith}
 use Rattle.word.specs.Decode.{sums}
-use Rattle.word.proofs.Rows.{returned}
+use Rattle.word.proofs.Candidates.{returned}
 use Rattle.decoder.proofs.decoder.sum_at.Statement.{statement}
 use Rattle.decoder.proofs.decoder.sum_at.Tie as tie
 

@@ -3,7 +3,7 @@ use mathlib.Core.Path.{sym, ap, _∙_}
 use borrow.Author.Needs.{needs}
 use Rattle.plan.specs.Verdict.{isAccept}
 use Rattle.plan.proofs.Laws.{not-accept, stops, goes-on}
-use Rattle.disassembler.proofs.Defined.{ranges-in-order, not-writable, writable}
+use Rattle.disassembler.proofs.Defined.{ranges-valid, not-writable, writable}
 use Rattle.disassembler.proofs.disassembler.check_writable.Statement.{statement}
 use Rattle.disassembler.proofs.disassembler.check_writable.Tie as tie
 
@@ -19,7 +19,7 @@ check-writable-spec =
     (stops _ (c .before .check-ranges .ensures) (not-accept (c .before .check-ranges .result) (c .match .keys2))))
     (λ c κs.
     let c2 = c .before .before in
-    let o = ranges-in-order _ (sym (c2 .check-ranges .ensures) ∙ c .enum-told .given .1) in
+    let o = ranges-valid _ (sym (c2 .check-ranges .ensures) ∙ c .enum-told .given .1) in
     (c2 .before .if1 .left, o .0, o .1, o .2))
     (λ c.
     let c3 = c .before .before .before in

@@ -9,7 +9,7 @@ use denote.Enum.Declared.{tagOf}
 use Rattle.laws.proofs.Tests.{failed, passed}
 use Rattle.word.specs.Profile.{LP5523}
 use Rattle.plan.specs.declared.EnginePlan.{EnginePlan}
-use Rattle.plan.specs.declared.EnginePlan.the-variants.{Unused, Code, CodeAndTable}
+use Rattle.plan.specs.declared.EnginePlan.the-variants.{Unused, CodeOnly, CodeAndTable}
 use Rattle.plan.specs.declared.Verdict.the-variants.{Accept}
 use Rattle.plan.specs.internal.Passes.{tableVerdict}
 use Rattle.plan.proofs.EnginePlan.{the-type}
@@ -24,7 +24,7 @@ keys = 0 ∷ 1 ∷ []
 others : (q : EnginePlan) (i : ℕ) (image : List ℕ) → OneOf keys (tagOf the-type q) → Accept ≡ tableVerdict LP5523 q i image
 unfolding tableVerdict
 others Unused i image h = refl
-others (Code f l) i image h = refl
+others (CodeOnly f l) i image h = refl
 others (CodeAndTable f l t b) i image h = absurd (miss keys 2 tt h)
 
 pub check-table-spec : {M : Type 1} → statement M

@@ -1,10 +1,10 @@
--- `checker::ranges::apart::ranges_meet` meets its contract.
+-- `checker::ranges::overlap::ranges_overlap` meets its contract.
 use borrow.Author.Tests.{le-leb, lt-leb}
-use Rattle.checker.proofs.ranges.apart.ranges_meet.Statement.{statement}
-use Rattle.checker.proofs.ranges.apart.ranges_meet.Tie as tie
+use Rattle.checker.proofs.ranges.overlap.ranges_overlap.Statement.{statement}
+use Rattle.checker.proofs.ranges.overlap.ranges_overlap.Tie as tie
 
-pub ranges-meet-spec : {M : Type 1} → statement M
-ranges-meet-spec =
+pub ranges-overlap-spec : {M : Type 1} → statement M
+ranges-overlap-spec =
     tie.close
     (tie.spec
     (λ c. simp (lt-leb _ _ (c .if1 .taken)))
