@@ -6,13 +6,13 @@ mod names;
 mod views;
 
 use crate::numbers;
-use crate::pieces::SPACE;
-use crate::pieces::after;
 use crate::print;
 use calls::called;
 use machine::Chip;
 use names::base_of;
 use names::named;
+use text::SPACE;
+use text_bytes::after_part;
 use text_bytes::part_at;
 
 // The chip, and the address where the next words go.
@@ -32,7 +32,7 @@ pub fn commands(s: State, line: &[u8]) -> State {
     while at < line.len() {
         let name = part_at(line, at, SPACE);
         let call = named(name);
-        let n = numbers::read(line, after(line, at, SPACE), base_of(call));
+        let n = numbers::read(line, after_part(line, at, SPACE), base_of(call));
         now = called(now, call, name, n);
         at = n.end;
     }

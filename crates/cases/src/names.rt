@@ -1,31 +1,14 @@
 // Names, looked up in tables: a script's own, and the ops' of the grammar.
-use crate::pieces::SPACE;
-use crate::pieces::after;
-use crate::pieces::from;
-use crate::pieces::until;
 use grammar::FORM_AT;
 use grammar::NAME_AT;
 use grammar::NAMES;
-use text_bytes::part_at;
+use text_bytes::from;
 use text_bytes::same;
+use text_bytes::until;
 ghost use Prim.Native.Nat.{_<_};
 
 // The ops come first among the grammar's names.
 pub const OPS: u16 = grammar::OPS as u16;
-
-// The place of a name among names with a space between; past the last for another name.
-pub fn place_of(table: &[u8], name: &[u8]) -> usize {
-    let mut place: usize = 0;
-    let mut at: usize = 0;
-    while at < table.len() {
-        if same(part_at(table, at, SPACE), name) {
-            return place;
-        }
-        at = after(table, at, SPACE);
-        place += 1;
-    }
-    place
-}
 
 // Whether a part of a line is a name; numbers begin with a digit or a capital.
 pub fn is_name(part: &[u8]) -> bool {

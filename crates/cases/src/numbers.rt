@@ -1,9 +1,9 @@
 // The numbers of a line. One that can't be read or is too large is said in the output, and 0 stands
 // for it.
 use crate::names::is_name;
-use crate::pieces::SPACE;
-use crate::pieces::after;
 use crate::print;
+use text::SPACE;
+use text_bytes::after_part;
 use text_bytes::part_at;
 ghost use Prim.Native.Nat.{_≤_};
 
@@ -113,7 +113,7 @@ pub fn read(text: &[u8], from: usize, base: Base) -> Numbers
             break;
         }
         n = with(n, part, base);
-        at = after(text, at, SPACE);
+        at = after_part(text, at, SPACE);
     }
     n.end = at;
     n

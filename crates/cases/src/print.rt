@@ -1,8 +1,8 @@
 // Text, and templates with numbers.
-use crate::pieces::until;
 use text_bytes::put_byte;
 use text_bytes::put_bytes;
 use text_bytes::put_decimal;
+use text_bytes::until;
 ghost use Prim.Native.Nat.{_+_, _<_, _≤_};
 
 // The marks of a template: a decimal number, four hexadecimal digits, two bits.

@@ -1,18 +1,17 @@
 // A script: a line `section NAME` says whose commands stand on the lines after it. A line that is
 // empty or begins with '#' is no command.
 use crate::chips;
-use crate::names::place_of;
-use crate::pieces::after;
 use crate::pieces::first;
 use crate::pieces::rest;
 use crate::plans;
 use crate::print;
 use crate::sheets;
 use crate::words;
+use text::LINE_FEED;
+use text_bytes::after_part;
 use text_bytes::part_at;
+use text_bytes::place_of;
 use text_bytes::same;
-
-const LINE_FEED: u8 = b'\n';
 
 enum Section {
     Words,
@@ -100,6 +99,6 @@ pub fn play(script: &[u8], sheet: &mut [u8]) {
         print::text(line);
         s = answered(s, sheet, line);
         print::text(b"\n");
-        at = after(script, at, LINE_FEED);
+        at = after_part(script, at, LINE_FEED);
     }
 }

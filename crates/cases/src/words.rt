@@ -11,13 +11,13 @@ use crate::numbers;
 use crate::numbers::Base;
 use crate::pieces::first;
 use crate::pieces::rest;
-use crate::pieces::until;
 use crate::print;
 use grammar::NAMES;
 use grammar::Values;
 use op_codec::values_of;
 use op_codec::word_of;
 use text_bytes::same;
+use text_bytes::until;
 use word::Coded;
 use word::Word;
 

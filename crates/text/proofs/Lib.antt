@@ -1,5 +1,6 @@
 pub mod Turns
 pub mod Splits
+pub mod Places
 pub mod Values
 pub mod Numbers
 pub mod Numerals

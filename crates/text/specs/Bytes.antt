@@ -6,7 +6,7 @@ use Prim.Native.String.{String}
 use mathlib.Core.Bool.{Bool, true, false, not, cond, _&&_}
 use mathlib.Core.List.{List, [], _∷_, _++_}
 use lib.Dec.{eqb, ltb}
-use lib.ListN.{take, drop}
+use lib.ListN.{length, take, drop}
 
 -- The bytes of an ASCII text.
 abbrev pub ascii : String → List ℕ
@@ -63,6 +63,15 @@ join d (p ∷ ps) = p ++ joined d ps
 -- The part that begins at a place, up to the next d or to the end.
 unfoldable pub partAt : ℕ → ℕ → List ℕ → List ℕ
 partAt d at s = take (indexOf d (drop at s)) (drop at s)
+
+-- The place after the part that begins at a place and its separator; one past the end where that part is the last.
+unfoldable pub afterPart : ℕ → ℕ → List ℕ → ℕ
+afterPart d at s = cond (ltb at (length s)) (at + length (partAt d at s) + 1) (length s + 1)
+
+-- The number of the first text that is t, counted from 0; how many there are where none is.
+unfoldable pub placeOf : List ℕ → List (List ℕ) → ℕ
+placeOf t [] = zero
+placeOf t (p ∷ ps) = cond (same p t) zero (suc (placeOf t ps))
 
 -- What stands after `key=`, or nothing where a pair doesn't begin so.
 unfoldable pub valueOf : List ℕ → List ℕ → List ℕ

@@ -2,12 +2,12 @@
 use super::State;
 use crate::numbers;
 use crate::numbers::Numbers;
-use crate::pieces::until;
 use crate::print;
 use machine::Chip;
 use machine::Outcome;
 use machine::WriteResult;
 use text_bytes::put_byte;
+use text_bytes::until;
 ghost use Prim.Native.Nat.{_<_};
 
 // A refusal of what is meant to succeed; nothing for success.

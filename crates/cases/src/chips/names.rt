@@ -1,6 +1,6 @@
 // The commands, and their names.
-use crate::names::place_of;
 use crate::numbers::Base;
+use text_bytes::place_of;
 
 pub enum Call {
     New,

@@ -1,5 +1,5 @@
 // The commands, and their names.
-use crate::names::place_of;
+use text_bytes::place_of;
 
 pub enum Command {
     // the sheet: emptied, kept as it is, cut back to what was kept, or with more bytes at its end

@@ -1,11 +1,11 @@
 // Single op lines: read as a code, and written from one.
 use super::lent::FILL_BYTE;
 use super::lent::bytes_kept;
-use crate::pieces::until;
 use crate::print;
 use op_lines::WordLine;
 use op_lines::WordWritten;
 use text_bytes::same;
+use text_bytes::until;
 
 fn length_of(written: WordWritten) -> usize {
     let WordWritten::Length(n) = written else {

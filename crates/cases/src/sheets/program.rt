@@ -1,6 +1,5 @@
 // The program for the writer: given by its plan and its words, and printed so.
 use super::State;
-use crate::names::place_of;
 use crate::numbers;
 use crate::numbers::Base;
 use crate::pieces::first;
@@ -9,6 +8,7 @@ use crate::plans::engine_plan;
 use crate::print;
 use plan::EnginePlan;
 use plan::Plan;
+use text_bytes::place_of;
 
 // `unused`, `code` and two addresses, or `table` and four.
 fn engine(parts: &[u8]) -> EnginePlan {

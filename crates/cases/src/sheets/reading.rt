@@ -2,9 +2,9 @@
 use super::State;
 use super::lent::FILL_WORD;
 use super::lent::words_kept;
-use crate::pieces::until;
 use crate::print;
 use asm::Assembled;
+use text_bytes::until;
 
 // More than there is cannot be lent.
 fn called(text: &[u8], lent: &mut [u16], words: usize) -> Assembled {

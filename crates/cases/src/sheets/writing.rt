@@ -3,11 +3,11 @@
 use super::State;
 use super::lent::FILL_BYTE;
 use super::lent::bytes_kept;
-use crate::pieces::until;
 use crate::plans::words_until;
 use crate::print;
 use asm::Disassembled;
 use text_bytes::same;
+use text_bytes::until;
 
 fn length_of(written: Disassembled) -> usize {
     let Disassembled::Length(n) = written else {

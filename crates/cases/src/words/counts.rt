@@ -1,9 +1,9 @@
 // Of how many of the 65,536 codes something holds.
 use crate::names::OPS;
 use crate::names::op_named;
-use crate::names::place_of;
 use crate::print;
 use op_codec::values_of;
+use text_bytes::place_of;
 use word::Coded;
 
 enum Question {

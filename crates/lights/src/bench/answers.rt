@@ -21,17 +21,17 @@ use crate::sentences::say::say_three;
 use crate::sentences::shown::NO_QUOTE;
 use crate::sentences::templates;
 use crate::sheets::reading::write_words;
-use crate::texts::pieces;
-use crate::texts::pieces::SPACE;
-use crate::texts::pieces::from;
-use crate::texts::pieces::place_of;
-use crate::texts::pieces::until;
 use machine::Chip;
 use machine::Outcome;
 use text::Decimal;
+use text::SPACE;
+use text_bytes::after_part;
+use text_bytes::from;
 use text_bytes::part_at;
+use text_bytes::place_of;
 use text_bytes::read_decimal;
 use text_bytes::same;
+use text_bytes::until;
 
 // The chip after a command of the bench, and how the command ended.
 fn after(chip: Chip, status: Status) -> Talk {
@@ -117,7 +117,7 @@ fn burst(m: Chip, line: &[u8]) -> Talk {
         Decimal::Outside => return wrong(m, templates::NO_REGISTER),
         Decimal::Malformed => return wrong(m, templates::NO_BURST),
     };
-    match read_bytes(line, pieces::after(line, 6, SPACE), &mut bytes) {
+    match read_bytes(line, after_part(line, 6, SPACE), &mut bytes) {
         Burst::Bytes(n) => written(m, first, until(&bytes, n)),
         Burst::Malformed => wrong(m, templates::NO_BURST),
         Burst::TooLarge => wrong(m, templates::NO_BYTE),

@@ -1,7 +1,7 @@
 // The bytes of a burst, read from a line of the bench.
-use crate::texts::pieces::SPACE;
-use crate::texts::pieces::after;
 use text::Decimal;
+use text::SPACE;
+use text_bytes::after_part;
 use text_bytes::part_at;
 use text_bytes::put_byte;
 use text_bytes::read_decimal;
@@ -25,7 +25,7 @@ pub fn read_bytes(line: &[u8], from: usize, bytes: &mut [u8]) -> Burst {
             Decimal::Outside => return Burst::TooLarge,
             Decimal::Malformed => return Burst::Malformed,
         }
-        at = after(line, at, SPACE);
+        at = after_part(line, at, SPACE);
     }
     Burst::Bytes(count)
 }

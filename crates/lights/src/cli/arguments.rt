@@ -1,11 +1,11 @@
 // The arguments of a command: those that the program was started with, or what stands between the
 // spaces of a line of standard input. They are numbered as a program's are: 1 is the command's name.
-use crate::texts::pieces::SPACE;
-use crate::texts::pieces::after;
 use crate::texts::pieces::nth_place;
-use crate::texts::pieces::until;
+use text::SPACE;
+use text_bytes::after_part;
 use text_bytes::part_at;
 use text_bytes::put_bytes;
+use text_bytes::until;
 
 pub enum Source {
     Program,
@@ -66,7 +66,7 @@ pub fn count(source: Source, line: &[u8]) -> usize {
     let mut n: usize = 1;
     let mut at: usize = 0;
     while at <= line.len() {
-        at = after(line, at, SPACE);
+        at = after_part(line, at, SPACE);
         n += 1;
     }
     n

@@ -29,10 +29,10 @@ use crate::sheets::ops;
 use crate::sheets::reading;
 use crate::sheets::reading::Program;
 use crate::sheets::runs;
-use crate::texts::pieces::from;
-use crate::texts::pieces::until;
+use text_bytes::from;
 use text_bytes::put_byte;
 use text_bytes::put_bytes;
+use text_bytes::until;
 use word::WORDS;
 
 // check SHEET..: standard input is read once.

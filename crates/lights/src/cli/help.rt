@@ -13,12 +13,11 @@ use super::status::Status;
 use crate::sentences::ops::put_ops;
 use crate::sentences::say::line_of;
 use crate::sentences::templates;
-use crate::texts::pieces;
-use crate::texts::pieces::LINE_FEED;
-use crate::texts::pieces::from;
 use crate::texts::pieces::nth_place;
-use crate::texts::pieces::until;
+use text::LINE_FEED;
+use text_bytes::from;
 use text_bytes::put_bytes;
+use text_bytes::until;
 
 // The places of the commands in the tables below. That of svg, 7, is nowhere asked for.
 pub const CHECK: usize = 0;
@@ -49,7 +48,7 @@ pub const COMMANDS: usize = 12;
 // the commands.
 pub fn place_of(name: &[u8]) -> usize {
     let table = b"check image sheet decode encode run show svg bench - help --version --help -h";
-    let place = pieces::place_of(table, name);
+    let place = text_bytes::place_of(table, name);
     match place {
         12 | 13 => HELP,
         _ => place,

@@ -3,8 +3,7 @@ ghost use Prim.Native.Nat.{_≤_};
 ghost use lib.ListN.{length};
 ghost use mathlib.Core.Path.{_≡_};
 use super::files::read_some;
-
-const LINE_FEED: u8 = 10;
+use text::LINE_FEED;
 
 // More lines and more reads than any input has.
 pub const MOST: u64 = 18_446_744_073_709_551_615;

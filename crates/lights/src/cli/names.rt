@@ -2,9 +2,9 @@
 use super::arguments;
 use super::arguments::Argument;
 use super::arguments::Source;
-use crate::texts::pieces::until;
 use text_bytes::put_bytes;
 use text_bytes::same;
+use text_bytes::until;
 
 // The most bytes that a name has.
 pub const LONGEST: usize = 4096;

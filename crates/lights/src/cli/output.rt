@@ -6,8 +6,8 @@ use crate::sentences::say::Message;
 use crate::sentences::say::line_of;
 use crate::sentences::templates;
 use crate::sentences::templates::put_say;
-use crate::texts::pieces::until;
 use text_bytes::put_byte;
+use text_bytes::until;
 
 // No answer but a sheet or a picture is longer.
 pub const ANSWER: usize = 8192;

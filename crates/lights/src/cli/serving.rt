@@ -92,16 +92,15 @@ fn next(t: Talk, found: Found, line: &[u8], outer: Source) -> Talk {
     }
 }
 
-// The program's command line, and the lines that it asks for: they are answered one by one, to the end of
-// the input or as far as they are wanted. The worst status.
-pub fn run() -> Status {
-    let mut buf = io::large_buffer();
-    let mut t = commands::command(Source::Program, b"");
-    let first = t.mode;
+// Lines that are answered one by one, to the end of the input or as far as they are wanted. The worst
+// status. The loop has a function of its own, since the compiler then copies the chip less often.
+fn serve(start: Talk, buf: &mut [u8]) -> Status {
+    let first = start.mode;
     let outer = match first {
         Mode::Commands => Source::Line,
         Mode::Decode | Mode::Encode | Mode::Bench | Mode::Over => Source::Program,
     };
+    let mut t = start;
     let mut worst = t.status;
     let mut at = input::NONE_YET;
     let mut left: u64 = input::MOST;
@@ -113,7 +112,7 @@ pub fn run() -> Status {
         if let Status::Lost = worst {
             return worst;
         }
-        at = input::next(&mut buf, at);
+        at = input::next(buf, at);
         let found = at.found;
         let begin = at.at;
         let stop = at.stop;
@@ -123,4 +122,10 @@ pub fn run() -> Status {
         left -= 1;
     }
     Status::Lost
+}
+
+// The program's command line, and the lines that it asks for.
+pub fn run() -> Status {
+    let mut buf = io::large_buffer();
+    serve(commands::command(Source::Program, b""), &mut buf)
 }

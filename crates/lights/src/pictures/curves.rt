@@ -8,9 +8,9 @@ use super::patterns;
 use super::patterns::put_piece;
 use super::pixels;
 use super::xml::put_text;
-use crate::texts::pieces::SPACE;
 use crate::texts::pieces::nth;
 use machine::Chip;
+use text::SPACE;
 use text_bytes::put_bytes;
 ghost use Prim.Native.Nat.{_<_, _≤_};
 

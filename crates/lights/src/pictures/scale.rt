@@ -2,9 +2,9 @@
 use super::columns::IN_A_ROW;
 use super::marks;
 use super::times;
-use crate::texts::pieces::until;
 use text_bytes::put_byte;
 use text_bytes::put_bytes;
+use text_bytes::until;
 ghost use Prim.Native.Nat.{_+_, _*_, _<_, _≤_};
 
 // The bytes of a row's label.

@@ -12,8 +12,6 @@ use super::templates;
 use super::verdicts;
 use super::verdicts::Origin;
 use crate::cli::status::Status;
-use crate::texts::pieces::LINE_FEED;
-use crate::texts::pieces::after;
 use crate::texts::pieces::nth;
 use crate::texts::pieces::nth_place;
 use asm::Assembled;
@@ -22,6 +20,8 @@ use grammar::LineRead;
 use op_lines::WordLine;
 use plan::EnginePlan;
 use plan::Plan;
+use text::LINE_FEED;
+use text_bytes::after_part;
 use word::WORDS;
 
 // The address of the last word.
@@ -82,7 +82,7 @@ fn line_count(text: &[u8]) -> u32 {
     let mut n: u32 = 0;
     let mut at: usize = 0;
     while at < text.len() {
-        at = after(text, at, LINE_FEED);
+        at = after_part(text, at, LINE_FEED);
         // no text that is read has more
         if n < 4_294_967_295 {
             n += 1;

@@ -1,10 +1,10 @@
 // Bytes of others, shown or compared.
-use crate::texts::pieces::SPACE;
-use crate::texts::pieces::until;
 use crate::texts::pieces::value_of;
+use text::SPACE;
 use text_bytes::part_at;
 use text_bytes::put_byte;
 use text_bytes::put_bytes;
+use text_bytes::until;
 
 // How many bytes of a text of a sheet are quoted.
 pub const MOST_QUOTED: usize = 40;

@@ -1,7 +1,5 @@
 // The tables of `grammar`, asked at any place: a number that isn't there is 0, a name is empty, and a form
 // has no pairs.
-use crate::texts::pieces::from;
-use crate::texts::pieces::until;
 use grammar::ALSO_HIGH;
 use grammar::ALSO_LOW;
 use grammar::FORM_AT;
@@ -14,8 +12,10 @@ use grammar::NAMES;
 use grammar::NUMBERS;
 use grammar::PAIR_KEY;
 use grammar::PAIR_KIND;
+use text_bytes::from;
 use text_bytes::put_bytes;
 use text_bytes::same;
+use text_bytes::until;
 ghost use Prim.Native.Nat.{_≤_, _<_};
 
 // The ops come first among the names.

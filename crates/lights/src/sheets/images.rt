@@ -23,10 +23,10 @@ use crate::sentences::say::say_only;
 use crate::sentences::templates;
 use crate::sentences::verdicts::Origin;
 use crate::sentences::verdicts::of_verdict;
-use crate::texts::pieces::until;
 use crate::texts::words::separator;
 use asm::Disassembled;
 use plan::Plan;
+use text_bytes::until;
 
 // No sheet is longer.
 const LONGEST_SHEET: usize = 16_384;

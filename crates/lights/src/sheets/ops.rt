@@ -11,11 +11,11 @@ use crate::cli::status::Status;
 use crate::cli::status::worse;
 use crate::sentences::reader;
 use crate::sentences::templates;
-use crate::texts::pieces::SPACE;
-use crate::texts::pieces::after;
 use crate::texts::words::put_hex;
 use op_lines::WordLine;
 use op_lines::WordWritten;
+use text::SPACE;
+use text_bytes::after_part;
 use text_bytes::part_at;
 use text_bytes::put_byte;
 
@@ -41,7 +41,7 @@ pub fn decode_line(line: &[u8]) -> Status {
         if let Status::Lost = status {
             return status;
         }
-        at = after(line, at, SPACE);
+        at = after_part(line, at, SPACE);
     }
     status
 }

@@ -1,8 +1,8 @@
 // An engine's plan from an argument: -, first-last, or first-last/top-bottom.
 use crate::cli::numbers::Number;
 use crate::cli::numbers::read_number;
-use crate::texts::pieces::from;
 use plan::EnginePlan;
+use text_bytes::from;
 use text_bytes::part_at;
 use text_bytes::same;
 use word::Address;

@@ -10,10 +10,10 @@ use crate::cli::status::Status;
 use crate::sentences::reader;
 use crate::sentences::say::Message;
 use crate::sentences::say::line_of;
-use crate::texts::pieces::until;
 use crate::texts::words::put_words;
 use asm::Assembled;
 use plan::Plan;
+use text_bytes::until;
 use word::WORDS;
 
 pub enum Program {

@@ -27,6 +27,6 @@ commands-spec =
     (λ c κs. tt)
     (λ c κs. tt)
     (λ c κs. tt)
-    (λ c. omega (arith, c .before .before .before .after .ensures (omega arith)))
+    (λ c. omega (arith, c .before .before .before .after-part .ensures .1 .0 (omega arith)))
     (λ c. tt)
     (λ c. tt))

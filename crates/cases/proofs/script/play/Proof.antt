@@ -28,7 +28,7 @@ play-spec =
     (λ c. search needs)
     (λ c κs. tt)
     (λ c κs. tt)
-    (λ c. omega (arith, c .after .ensures (omega arith)))
+    (λ c. omega (arith, c .after-part .ensures .1 .0 (omega arith)))
     (λ c. search needs)
     (λ c. search needs)
     (λ c. tt))

@@ -14,24 +14,23 @@ use crate::sentences::shown::How;
 use crate::sentences::shown::MOST_QUOTED;
 use crate::sentences::shown::put_changed;
 use crate::sentences::tables::OPS;
-use crate::sentences::tables::Stretch;
 use crate::sentences::tables::pair_at;
 use crate::sentences::tables::pairs_of;
 use crate::sentences::tables::place_of;
 use crate::sentences::tables::ranges_of;
 use crate::sentences::templates;
-use crate::texts::pieces::EQUALS_SIGN;
-use crate::texts::pieces::SPACE;
-use crate::texts::pieces::after;
 use crate::texts::pieces::ends_in;
-use crate::texts::pieces::until;
 use crate::texts::pieces::value_of;
 use grammar::LineKind;
 use grammar::PLAN_FORM;
 use text::Decimal;
+use text::EQUALS_SIGN;
+use text::SPACE;
+use text_bytes::after_part;
 use text_bytes::part_at;
 use text_bytes::read_decimal;
 use text_bytes::same;
+use text_bytes::until;
 
 const TAB: u8 = 9;
 
@@ -75,7 +74,7 @@ fn of_known(line: &[u8], op: u32) -> Say {
         rank: ALLOWED,
         say: say_three(templates::UP_BY_ZERO, op, last.key, most),
     };
-    fault_of(line, after(line, 0, SPACE), pairs, keys, none)
+    fault_of(line, after_part(line, 0, SPACE), pairs, keys, none)
 }
 
 // An op that isn't known: perhaps it is one but for the case of letters, or `_` in place of `-`. The
@@ -146,7 +145,13 @@ fn of_plan(line: &[u8], engine: u32) -> Say {
         return plan;
     }
     let fault = of_engine(value_of(first), engine);
-    fault_of(line, after(line, 0, SPACE), pairs_of(PLAN), plan, fault)
+    fault_of(
+        line,
+        after_part(line, 0, SPACE),
+        pairs_of(PLAN),
+        plan,
+        fault,
+    )
 }
 
 // A line of one pair, whose value is a number of 16 bits: the sentence about its range, or its shape.

@@ -11,12 +11,12 @@ use crate::sentences::tables::place_of;
 use crate::sentences::tables::ranges_of;
 use crate::sentences::tables::words_of;
 use crate::sentences::templates;
-use crate::texts::pieces::EQUALS_SIGN;
-use crate::texts::pieces::SPACE;
-use crate::texts::pieces::after;
 use crate::texts::pieces::value_of;
 use grammar::DECISION;
 use text::Decimal;
+use text::EQUALS_SIGN;
+use text::SPACE;
+use text_bytes::after_part;
 use text_bytes::part_at;
 use text_bytes::read_decimal;
 
@@ -149,7 +149,7 @@ pub(super) fn fault_of(line: &[u8], from: usize, pairs: Stretch, keys: Say, befo
             least = judged.rank;
             say = say_two(judged.template, pair.key, pair.kind);
         }
-        at = after(line, at, SPACE);
+        at = after_part(line, at, SPACE);
         i += 1;
         if pair.kind == YES_OR_NO {
             if judged.rank == NOT_ALLOWED {

@@ -2,11 +2,11 @@
 use crate::sentences::say::Say;
 use crate::sentences::say::say_two;
 use crate::sentences::templates;
-use crate::texts::pieces::EQUALS_SIGN;
-use crate::texts::pieces::place_of;
 use grammar::LineKind;
 use plan::Plan;
+use text::EQUALS_SIGN;
 use text_bytes::part_at;
+use text_bytes::place_of;
 
 // Whether a line begins as the line of a word, but not as one of this kind.
 pub fn is_elsewhere(line: &[u8], kind: LineKind) -> bool {

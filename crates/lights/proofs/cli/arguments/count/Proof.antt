@@ -26,6 +26,6 @@ count-spec =
     (λ c. search needs)
     (λ c κs. search needs)
     (λ c. search needs)
-    (λ c. omega (arith, c .after .ensures (omega arith)))
-    (λ c. omega (arith, c .after .ensures (omega arith)))
+    (λ c. omega (arith, c .after-part .ensures .1 .0 (omega arith)))
+    (λ c. omega (arith, c .after-part .ensures .1 .0 (omega arith)))
     (λ c. search needs))

@@ -1,19 +1,19 @@
--- `lights::cli::serving::run` is safe and ends.
+-- `lights::cli::serving::serve` is safe and ends.
 use Prim.Native.Nat.{_≤_}
 use mathlib.Core.Path.{_≡_}
 use borrow.Author.Needs.{needs}
 use lib.ListN.{length}
-use Rattle.lights.proofs.cli.serving.run.Statement.{statement}
-use Rattle.lights.proofs.cli.serving.run.Tie as tie
+use Rattle.lights.proofs.cli.serving.serve.Statement.{statement}
+use Rattle.lights.proofs.cli.serving.serve.Tie as tie
 
 abbrev Inv-loop : tie.InvT-loop
-Inv-loop buf₀ t₀ outer worst₀ at₀ left₀ buf t worst at left = (at .at ≤ at .stop) × (at .stop ≤ at .end) × (at .end ≤ length buf) × (65536 ≡ length buf)
+Inv-loop start buf₀ outer t₀ worst₀ at₀ left₀ buf t worst at left = (at .at ≤ at .stop) × (at .stop ≤ at .end) × (at .end ≤ length buf)
 
 abbrev μ-loop : tie.MeasureT-loop
-μ-loop buf₀ t₀ outer worst₀ at₀ left₀ buf t worst at left = left
+μ-loop start buf₀ outer t₀ worst₀ at₀ left₀ buf t worst at left = left
 
-pub run-spec : {M : Type 1} → statement M
-run-spec =
+pub serve-spec : {M : Type 1} → statement M
+serve-spec =
     tie.close
     (tie.spec
     Inv-loop
