@@ -7,10 +7,11 @@ use Rattle.lights.proofs.cli.serving.serve.Statement.{statement}
 use Rattle.lights.proofs.cli.serving.serve.Tie as tie
 
 abbrev Inv-loop : tie.InvT-loop
-Inv-loop start buf₀ outer t₀ worst₀ at₀ left₀ buf t worst at left = (at .at ≤ at .stop) × (at .stop ≤ at .end) × (at .end ≤ length buf)
+Inv-loop buf₀ outer t₀ worst₀ at₀ left₀ buf t worst at left =
+    (at .at ≤ at .stop) × (at .stop ≤ at .end) × (at .end ≤ length buf) × (length buf ≡ length buf₀)
 
 abbrev μ-loop : tie.MeasureT-loop
-μ-loop start buf₀ outer t₀ worst₀ at₀ left₀ buf t worst at left = left
+μ-loop buf₀ outer t₀ worst₀ at₀ left₀ buf t worst at left = left
 
 pub serve-spec : {M : Type 1} → statement M
 serve-spec =
@@ -18,9 +19,7 @@ serve-spec =
     (tie.spec
     Inv-loop
     μ-loop
-    (λ c κs. search needs)
     (λ c. search needs)
-    (λ c κs. search needs)
     (λ c. search needs)
     (λ c. search needs)
     (λ c. search needs)
@@ -34,6 +33,7 @@ serve-spec =
     (λ c. search needs)
     (λ c κs. search needs)
     (λ c κs. search needs)
+    (λ c. search needs)
     (λ c. search needs)
     (λ c. search needs)
     (λ c. search needs)
