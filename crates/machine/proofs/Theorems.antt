@@ -1,5 +1,5 @@
 -- The theorems of specs/Theorems.antt, each with the file that proves it.
-use Rattle.machine.specs.Theorems.{Demand3, Frame, OthersKept, NewChipWithin, StaysWithin, NewChipPc, PcStays, RefusedBurst, RefusedRun, StoppedBeat, RunIsBeats}
+use Rattle.machine.specs.Theorems.{Demand3, CheckedSafe, Frame, OthersKept, NewChipWithin, StaysWithin, NewChipPc, PcStays, RefusedBurst, RefusedRun, StoppedBeat, RunIsBeats}
 use Rattle.machine.proofs.Safety as safety
 use Rattle.machine.proofs.Frame as framed
 use Rattle.machine.proofs.Limits as limits
@@ -8,6 +8,9 @@ use Rattle.machine.proofs.Run as running
 
 pub demand-3 : Demand3
 demand-3 = safety.demand-3
+
+pub checked-safe : CheckedSafe
+checked-safe = safety.checked-safe
 
 pub frame : Frame
 frame = framed.frame

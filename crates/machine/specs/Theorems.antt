@@ -6,7 +6,9 @@ use mathlib.Core.Path.{_≡_}
 use lib.ListN.{getD, replicate}
 use Rattle.word.specs.Profile.{Profile, wordsOf, enginesOf, pagesOf}
 use Rattle.plan.specs.declared.Plan.{Plan}
+use Rattle.plan.specs.declared.Verdict.the-variants.{Accept}
 use Rattle.plan.specs.Conditions.{Accepted}
+use Rattle.plan.specs.Check.{checkOf}
 use Rattle.machine.specs.declared.Engine.{Engine}
 use Rattle.machine.specs.declared.Output.{Output}
 use Rattle.machine.specs.declared.Chip.{Chip}
@@ -23,16 +25,26 @@ use Rattle.machine.specs.Calls.{Call, after, afterAll, Allowed}
 use Rattle.machine.specs.Trace.{Trace, begun, traceOf}
 use Rattle.machine.specs.Safe.{Safe, TableSafe}
 
--- 1. Demand 3: for every accepted plan and image, every chip loaded with them, and every sequence of beats, runs, interrupt reads, and
--- bursts that write only D and the run settings or are refused: the trace's chip is the one that the calls give, every turn is safe, and
--- so is every table after the last call.
-abbrev pub Demand3 : Type 0
-Demand3 =
-    (P : Profile) (p : Plan) (image : List ℕ) → Accepted P p image →
+-- 1. What demand 3 promises of a plan and an image: for every chip loaded with them, and every sequence of beats, runs, interrupt reads,
+-- and bursts that write only D and the run settings or are refused: the trace's chip is the one that the calls give, every turn is safe,
+-- and so is every table after the last call.
+abbrev pub ProgramSafe : Profile → Plan → List ℕ → Type 0
+ProgramSafe P p image =
     (m : Chip) → Loaded P p image m →
     (ks : List Call) → Allowed P ks m →
     let s : Trace = traceOf P ks (begun m) in
     (s .chip ≡ afterAll P ks m) × Safe P p (s .seen) × TableSafe P p (s .seen) (s .chip)
+
+-- All that is accepted is safe, by what accepts it.
+abbrev pub SequencesSafe : (Profile → Plan → List ℕ → Type 0) → Type 0
+SequencesSafe Accepts = (P : Profile) (p : Plan) (image : List ℕ) → Accepts P p image → ProgramSafe P p image
+
+-- Demand 3, of what meets every listed condition, and of what the checker accepts. By `AcceptsExactly` (crate plan) these are the same.
+abbrev pub Demand3 : Type 0
+Demand3 = SequencesSafe Accepted
+
+abbrev pub CheckedSafe : Type 0
+CheckedSafe = SequencesSafe (λ (P : Profile) (p : Plan) (image : List ℕ). checkOf P p image ≡ Accept)
 
 -- 2. The frame, on every chip: what engine i's turn leaves as it was. Of another engine that is all but its pending triggers, and so its A,
 -- B, PC and counts.
