@@ -10,6 +10,7 @@ pub mod Kept
 pub mod WordsKept
 pub mod Quiet
 pub mod Safety
+pub mod Recorded
 pub mod Calls
 pub mod Moves
 pub mod Limits

@@ -250,7 +250,7 @@ unfolding traceTurns turns traceTurn
 turns-chip P zero i s = refl
 turns-chip P (suc n) i s = turns-chip P n (suc i) (traceTurn P i s)
 
-tick-chip : (P : Profile) (b : Bool) (s : Trace) → traceTick P b s .chip ≡ tick P b (s .chip) .chip
+pub tick-chip : (P : Profile) (b : Bool) (s : Trace) → traceTick P b s .chip ≡ tick P b (s .chip) .chip
 unfolding traceTick tick
 tick-chip P b s = go (stopped (s .chip))
   where

@@ -1,10 +1,11 @@
 -- The theorems of specs/Theorems.antt, each with the file that proves it.
-use Rattle.machine.specs.Theorems.{Demand3, CheckedSafe, Frame, OthersKept, NewChipWithin, StaysWithin, NewChipPc, PcStays, RefusedBurst, RefusedRun, StoppedBeat, RunIsBeats}
+use Rattle.machine.specs.Theorems.{Demand3, CheckedSafe, Frame, OthersKept, NewChipWithin, StaysWithin, NewChipPc, PcStays, RefusedBurst, RefusedRun, StoppedBeat, RunIsBeats, BeatsRecorded, StoppedRecorded, RunRecorded}
 use Rattle.machine.proofs.Safety as safety
 use Rattle.machine.proofs.Frame as framed
 use Rattle.machine.proofs.Limits as limits
 use Rattle.machine.proofs.Refusals as refusals
 use Rattle.machine.proofs.Run as running
+use Rattle.machine.proofs.Recorded as recorded
 
 pub demand-3 : Demand3
 demand-3 = safety.demand-3
@@ -41,3 +42,12 @@ stopped-beat = refusals.stopped-beat
 
 pub run-is-beats : RunIsBeats
 run-is-beats = running.run-is-beats
+
+pub beats-recorded : BeatsRecorded
+beats-recorded = recorded.beats-recorded
+
+pub stopped-recorded : StoppedRecorded
+stopped-recorded = recorded.stopped-recorded
+
+pub run-recorded : RunRecorded
+run-recorded = recorded.run-recorded

@@ -1,7 +1,7 @@
 -- What is promised of the chip. The proofs are in proofs/Theorems.antt.
 use Prim.Native.Nat.{ℕ, zero, suc, _+_, _≤_, _<_}
 use mathlib.Core.Bool.{Bool, true, false, cond}
-use mathlib.Core.List.{List}
+use mathlib.Core.List.{List, [], _∷_, _++_}
 use mathlib.Core.Path.{_≡_}
 use lib.ListN.{getD, replicate}
 use Rattle.word.specs.Profile.{Profile, wordsOf, enginesOf, pagesOf}
@@ -16,13 +16,13 @@ use Rattle.machine.specs.declared.Outcome.the-variants.{Success, TooMany
 use Rattle.machine.specs.Parts.{engineAt, withPending}
 use Rattle.machine.specs.Outputs.{holder}
 use Rattle.machine.specs.Turn.{midWord, turn}
-use Rattle.machine.specs.Tick.{stopped, tick}
+use Rattle.machine.specs.Tick.{stopped, withPulse, tick}
 use Rattle.machine.specs.Run.{quiet, beginning, mostBeats, runOf}
 use Rattle.machine.specs.Burst.{succeeds, burstOf}
 use Rattle.machine.specs.NewChip.{newChip}
 use Rattle.machine.specs.Loaded.{Loaded}
-use Rattle.machine.specs.Calls.{Call, after, afterAll, Allowed}
-use Rattle.machine.specs.Trace.{Trace, begun, traceOf}
+use Rattle.machine.specs.Calls.{Call, beat, run, after, afterAll, Allowed}
+use Rattle.machine.specs.Trace.{Seen, Trace, begun, traceTick, traceCall, traceOf}
 use Rattle.machine.specs.Safe.{Safe, TableSafe}
 
 -- 1. What demand 3 promises of a plan and an image: for every chip loaded with them, and every sequence of beats, runs, interrupt reads,
@@ -132,3 +132,32 @@ pub record RunOf (P : Profile) (n : ℕ) (m : Chip) : Type 0 where
 
 abbrev pub RunIsBeats : Type 0
 RunIsBeats = (P : Profile) (n : ℕ) (m : Chip) → n ≤ mostBeats → RunOf P n m
+
+-- 6. The turns that a trace records. The chip as engine i's turn in a beat begins: the pulse is pending, and the engines before i have had
+-- their turns, each on what the one before it left.
+abbrev pub chipAtTurn : Profile → Bool → Chip → ℕ → Chip
+chipAtTurn P pulse m zero = withPulse pulse m
+chipAtTurn P pulse m (suc i) = turn P i (chipAtTurn P pulse m i) .chip
+
+-- The turns of the first n engines in a beat, the newest first.
+abbrev pub turnsOfBeat : Profile → Bool → Chip → ℕ → List Seen
+turnsOfBeat P pulse m zero = []
+turnsOfBeat P pulse m (suc i) = record { engine = i; chip = chipAtTurn P pulse m i } ∷ turnsOfBeat P pulse m i
+
+-- A beat records these turns, one of each engine; its chip is the one that the last of them left, and the words that it ended are those
+-- that they ended.
+pub record BeatRecorded (P : Profile) (pulse : Bool) (s : Trace) : Type 0 where
+  pub seen : traceTick P pulse s .seen ≡ turnsOfBeat P pulse (s .chip) (enginesOf P) ++ s .seen
+  pub chip : tick P pulse (s .chip) .chip ≡ chipAtTurn P pulse (s .chip) (enginesOf P)
+  pub ended : (i : ℕ) → i < enginesOf P → getD (tick P pulse (s .chip) .ended) i false ≡ turn P i (chipAtTurn P pulse (s .chip) i) .ended
+
+abbrev pub BeatsRecorded : Type 0
+BeatsRecorded = (P : Profile) (pulse : Bool) (s : Trace) → stopped (s .chip) ≡ false → BeatRecorded P pulse s
+
+-- A beat of a stopped chip records none.
+abbrev pub StoppedRecorded : Type 0
+StoppedRecorded = (P : Profile) (pulse : Bool) (s : Trace) → stopped (s .chip) ≡ true → traceTick P pulse s ≡ s
+
+-- "A run counts as its beats": it records what so many single beats record. A run of too many beats has none.
+abbrev pub RunRecorded : Type 0
+RunRecorded = (P : Profile) (n : ℕ) (s : Trace) → traceCall P (run n) s ≡ traceOf P (replicate (runOf P n (s .chip) .beats) (beat false)) s

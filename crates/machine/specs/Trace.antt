@@ -1,5 +1,6 @@
 -- Every turn of a sequence of calls, with the chip as the turn began. A trace goes through beats, runs and calls as specs/Tick.antt,
--- specs/Run.antt and specs/Calls.antt do; that its chip is theirs is a part of demand 3's theorem.
+-- specs/Run.antt and specs/Calls.antt do; that its chip is theirs is a part of demand 3's theorem, and that its turns are theirs is
+-- `BeatsRecorded` and `RunRecorded` (specs/Theorems.antt).
 use Prim.Native.Nat.{ℕ, zero, suc}
 use mathlib.Core.Bool.{Bool, true, false, cond}
 use mathlib.Core.List.{List, [], _∷_}
