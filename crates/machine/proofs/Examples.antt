@@ -25,7 +25,7 @@ use Rattle.machine.specs.Burst.{bytesWritten, burstOf}
 use Rattle.machine.specs.Interrupts.{readOf}
 use Rattle.machine.specs.Loaded.{UsedEngine, LoadedEngine}
 use Rattle.machine.specs.Calls.{after, nothing, then}
-use Rattle.machine.specs.Trace.{begun, traceTurn, traceTurns, traceTick, traceTicks, traceCall, traceOf}
+use Rattle.machine.specs.Trace.{traceTurn, traceTurns, traceTick, traceTicks, traceCall, traceOf}
 use Rattle.machine.specs.Safe.{TableSafe}
 use Rattle.machine.specs.Examples.{runningFrom, workedChip, tableChip, WorkedLoaded, TableLoaded, CallsAllowed, heldFrom, filledChip, FilledLoaded, callsWithBeat, FilledAllowed, turnsIn, FirstWordsDone, chipAfter, TablesPointedInto}
 use Rattle.machine.proofs.Common.{all-alike}

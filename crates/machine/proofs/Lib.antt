@@ -5,6 +5,7 @@ pub mod Frame
 pub mod Refusals
 pub mod RowBits
 pub mod Run
+pub mod Answers
 pub mod Closed
 pub mod Kept
 pub mod WordsKept

@@ -15,7 +15,7 @@ use Rattle.machine.specs.declared.RunResult.{RunResult}
 use Rattle.machine.specs.Turn.{turn}
 use Rattle.machine.specs.Tick.{stopped, withPulse, turns, tickIf, tick}
 use Rattle.machine.specs.Run.{quiet, mostBeats, runOf}
-use Rattle.machine.specs.Calls.{Call, beat, run}
+use Rattle.machine.specs.Calls.{beat, run}
 use Rattle.machine.specs.Trace.{Trace, withChip, traceTurn, traceTurns, traceTickIf, traceTick, traceTicks, traceCall, traceOf}
 use Rattle.machine.specs.Theorems.{ticks, chipAtTurn, turnsOfBeat, BeatsRecorded, StoppedRecorded, RunRecorded}
 use Rattle.machine.proofs.Refusals.{refused-run}

@@ -1,9 +1,10 @@
 -- The theorems of specs/Theorems.antt, each with the file that proves it.
-use Rattle.machine.specs.Theorems.{Demand3, CheckedSafe, Frame, OthersKept, NewChipWithin, StaysWithin, NewChipPc, PcStays, RefusedBurst, RefusedRun, StoppedBeat, RunIsBeats, BeatsRecorded, StoppedRecorded, RunRecorded}
+use Rattle.machine.specs.Theorems.{Demand3, CheckedSafe, Frame, OthersKept, NewChipWithin, StaysWithin, NewChipPc, PcStays, RefusedBurst, RefusedRun, StoppedBeat, BurstAnswers, RunAnswers, RunIsBeats, BeatsRecorded, StoppedRecorded, RunRecorded}
 use Rattle.machine.proofs.Safety as safety
 use Rattle.machine.proofs.Frame as framed
 use Rattle.machine.proofs.Limits as limits
 use Rattle.machine.proofs.Refusals as refusals
+use Rattle.machine.proofs.Answers as answers
 use Rattle.machine.proofs.Run as running
 use Rattle.machine.proofs.Recorded as recorded
 
@@ -39,6 +40,12 @@ refused-run = refusals.refused-run
 
 pub stopped-beat : StoppedBeat
 stopped-beat = refusals.stopped-beat
+
+pub burst-answers : BurstAnswers
+burst-answers = answers.burst-answers
+
+pub run-answers : RunAnswers
+run-answers = answers.run-answers
 
 pub run-is-beats : RunIsBeats
 run-is-beats = running.run-is-beats

@@ -21,6 +21,7 @@ pub mod Loaded
 pub mod Calls
 pub mod Trace
 pub mod Safe
+pub mod Refusals
 pub mod Theorems
 pub mod Examples
 pub mod Cases

@@ -2,6 +2,7 @@
 use Prim.Native.Nat.{ℕ, zero, suc, _+_, _≤_, _<_}
 use mathlib.Core.Bool.{Bool, true, false, cond}
 use mathlib.Core.List.{List, [], _∷_, _++_}
+use mathlib.Core.Logic.{_↔_}
 use mathlib.Core.Path.{_≡_}
 use lib.ListN.{getD, replicate}
 use Rattle.word.specs.Profile.{Profile, wordsOf, enginesOf, pagesOf}
@@ -12,11 +13,13 @@ use Rattle.plan.specs.Check.{checkOf}
 use Rattle.machine.specs.declared.Engine.{Engine}
 use Rattle.machine.specs.declared.Output.{Output}
 use Rattle.machine.specs.declared.Chip.{Chip}
+use Rattle.machine.specs.declared.Outcome.{Outcome}
 use Rattle.machine.specs.declared.Outcome.the-variants.{Success, TooManyBeats}
 use Rattle.machine.specs.Parts.{engineAt, withPending}
 use Rattle.machine.specs.Outputs.{holder}
 use Rattle.machine.specs.Turn.{midWord, turn}
 use Rattle.machine.specs.Tick.{stopped, withPulse, tick}
+use Rattle.machine.specs.Outcome.{numberOf}
 use Rattle.machine.specs.Run.{quiet, beginning, mostBeats, runOf}
 use Rattle.machine.specs.Burst.{succeeds, burstOf}
 use Rattle.machine.specs.NewChip.{newChip}
@@ -24,6 +27,7 @@ use Rattle.machine.specs.Loaded.{Loaded}
 use Rattle.machine.specs.Calls.{Call, beat, run, after, afterAll, Allowed}
 use Rattle.machine.specs.Trace.{Seen, Trace, begun, traceTick, traceCall, traceOf}
 use Rattle.machine.specs.Safe.{Safe, TableSafe}
+use Rattle.machine.specs.Refusals.{BurstCondition, RunCondition}
 
 -- 1. What demand 3 promises of a plan and an image: for every chip loaded with them, and every sequence of beats, runs, interrupt reads,
 -- and bursts that write only D and the run settings or are refused: the trace's chip is the one that the calls give, every turn is safe,
@@ -107,6 +111,13 @@ RefusedRun = (P : Profile) (n : ℕ) (m : Chip) → mostBeats < n → runOf P n 
 
 abbrev pub StoppedBeat : Type 0
 StoppedBeat = (P : Profile) (pulse : Bool) (m : Chip) → stopped m ≡ true → tick P pulse m ≡ record { chip = m; pin = false; ended = replicate (enginesOf P) false }
+
+-- Each number is given exactly when its condition of specs/Refusals.antt holds; 0 exactly when none does.
+abbrev pub BurstAnswers : Type 0
+BurstAnswers = (P : Profile) (a : ℕ) (vs : List ℕ) (m : Chip) (o : Outcome) → (numberOf (burstOf P a vs m .outcome) ≡ numberOf o) ↔ BurstCondition P a vs m o
+
+abbrev pub RunAnswers : Type 0
+RunAnswers = (P : Profile) (n : ℕ) (m : Chip) (o : Outcome) → (numberOf (runOf P n m .outcome) ≡ numberOf o) ↔ RunCondition n o
 
 -- 5. A run is its beats: those of so many single beats without a pulse.
 abbrev pub ticks : Profile → ℕ → Chip → Chip
