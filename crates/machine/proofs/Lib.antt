@@ -6,6 +6,7 @@ pub mod Refusals
 pub mod RowBits
 pub mod Run
 pub mod Answers
+pub mod OwnBeats
 pub mod Closed
 pub mod Kept
 pub mod WordsKept

@@ -1,5 +1,5 @@
 -- The theorems of specs/Theorems.antt, each with the file that proves it.
-use Rattle.machine.specs.Theorems.{Demand3, CheckedSafe, Frame, OthersKept, NewChipWithin, StaysWithin, NewChipPc, PcStays, RefusedBurst, RefusedRun, StoppedBeat, BurstAnswers, RunAnswers, RunIsBeats, BeatsRecorded, StoppedRecorded, RunRecorded}
+use Rattle.machine.specs.Theorems.{Demand3, CheckedSafe, Frame, OthersKept, NewChipWithin, StaysWithin, NewChipPc, PcStays, RefusedBurst, RefusedRun, StoppedBeat, BurstAnswers, RunAnswers, RunIsBeats, BeatsRecorded, StoppedRecorded, RunRecorded, WaitTakes, RampTakes, RampVarTakes, BranchJumps, BranchEndless}
 use Rattle.machine.proofs.Safety as safety
 use Rattle.machine.proofs.Frame as framed
 use Rattle.machine.proofs.Limits as limits
@@ -7,6 +7,7 @@ use Rattle.machine.proofs.Refusals as refusals
 use Rattle.machine.proofs.Answers as answers
 use Rattle.machine.proofs.Run as running
 use Rattle.machine.proofs.Recorded as recorded
+use Rattle.machine.proofs.OwnBeats as own
 
 pub demand-3 : Demand3
 demand-3 = safety.demand-3
@@ -58,3 +59,18 @@ stopped-recorded = recorded.stopped-recorded
 
 pub run-recorded : RunRecorded
 run-recorded = recorded.run-recorded
+
+pub wait-takes : WaitTakes
+wait-takes = own.wait-takes
+
+pub ramp-takes : RampTakes
+ramp-takes = own.ramp-takes
+
+pub ramp-var-takes : RampVarTakes
+ramp-var-takes = own.ramp-var-takes
+
+pub branch-jumps : BranchJumps
+branch-jumps = own.branch-jumps
+
+pub branch-endless : BranchEndless
+branch-endless = own.branch-endless

@@ -22,6 +22,7 @@ pub mod Calls
 pub mod Trace
 pub mod Safe
 pub mod Refusals
+pub mod OwnBeats
 pub mod Theorems
 pub mod Examples
 pub mod Cases

@@ -10,14 +10,23 @@ use Rattle.plan.specs.declared.Plan.{Plan}
 use Rattle.plan.specs.declared.Verdict.the-variants.{Accept}
 use Rattle.plan.specs.Conditions.{Accepted}
 use Rattle.plan.specs.Check.{checkOf}
+use Rattle.word.specs.declared.Step.{Step}
+use Rattle.word.specs.declared.Direction.{Direction}
+use Rattle.word.specs.declared.Word.the-variants.{Ramp, Wait, RampVar}
+use Rattle.machine.specs.declared.Progress.the-variants.{BetweenWords}
 use Rattle.machine.specs.declared.Engine.{Engine}
 use Rattle.machine.specs.declared.Output.{Output}
 use Rattle.machine.specs.declared.Chip.{Chip}
+use Rattle.machine.specs.declared.Effect.the-variants.{Keep}
 use Rattle.machine.specs.declared.Outcome.{Outcome}
 use Rattle.machine.specs.declared.Outcome.the-variants.{Success, TooManyBeats}
 use Rattle.machine.specs.Parts.{engineAt, withPending}
+use Rattle.machine.specs.WordEnd.{ends}
+use Rattle.machine.specs.Durations.{beatsOf, clampTime}
 use Rattle.machine.specs.Outputs.{holder}
-use Rattle.machine.specs.Turn.{midWord, turn}
+use Rattle.machine.specs.Variables.{variable}
+use Rattle.machine.specs.Branches.{withCount, branches}
+use Rattle.machine.specs.Turn.{midWord, returned, turn}
 use Rattle.machine.specs.Tick.{stopped, withPulse, tick}
 use Rattle.machine.specs.Outcome.{numberOf}
 use Rattle.machine.specs.Run.{quiet, beginning, mostBeats, runOf}
@@ -28,6 +37,7 @@ use Rattle.machine.specs.Calls.{Call, beat, run, after, afterAll, Allowe
 use Rattle.machine.specs.Trace.{Seen, Trace, begun, traceTick, traceCall, traceOf}
 use Rattle.machine.specs.Safe.{Safe, TableSafe}
 use Rattle.machine.specs.Refusals.{BurstCondition, RunCondition}
+use Rattle.machine.specs.OwnBeats.{Surroundings, fetched, Waits, RampLasts, Visits, Jumps}
 
 -- 1. What demand 3 promises of a plan and an image: for every chip loaded with them, and every sequence of beats, runs, interrupt reads,
 -- and bursts that write only D and the run settings or are refused: the trace's chip is the one that the calls give, every turn is safe,
@@ -172,3 +182,30 @@ StoppedRecorded = (P : Profile) (pulse : Bool) (s : Trace) → stopped (s .chip)
 -- "A run counts as its beats": it records what so many single beats record. A run of too many beats has none.
 abbrev pub RunRecorded : Type 0
 RunRecorded = (P : Profile) (n : ℕ) (s : Trace) → traceCall P (run n) s ≡ traceOf P (replicate (runOf P n (s .chip) .beats) (beat false)) s
+
+-- 7. "wait takes t beats (32t if p=1); ramp takes that times n, n=0 lasting as n=1. At the end of each of its n parts each held output
+-- moves by one": an engine that fetches such a word, in its own beats, whatever it meets meanwhile.
+abbrev pub WaitTakes : Type 0
+WaitTakes =
+    (P : Profile) (s : Surroundings) (e : Engine) (p t : ℕ) → e .progress ≡ BetweenWords → fetched P (s .memory 1) e ≡ Wait p t →
+    Waits P s e (beatsOf p t)
+
+abbrev pub RampTakes : Type 0
+RampTakes =
+    (P : Profile) (s : Surroundings) (e : Engine) (p t : ℕ) (dir : Direction) (n : ℕ) → e .progress ≡ BetweenWords → fetched P (s .memory 1) e ≡ Ramp p t dir n →
+    RampLasts P s e dir (beatsOf p t) n
+
+-- "Variable ramps read both values at the fetch": those of beat 1.
+abbrev pub RampVarTakes : Type 0
+RampVarTakes =
+    (P : Profile) (s : Surroundings) (e : Engine) (p : ℕ) (dir : Direction) (l r : ℕ) → e .progress ≡ BetweenWords → fetched P (s .memory 1) e ≡ RampVar p dir l r →
+    RampLasts P s e dir (beatsOf p (clampTime (variable (s .c 1) (s .d 1) (returned P e) l))) (variable (s .c 1) (s .d 1) (returned P e) r)
+
+-- A branch whose loops are c > 0 at count 0 jumps c times, and then goes on with count 0. With loops 0 it always jumps.
+abbrev pub BranchJumps : Type 0
+BranchJumps = (a : ℕ) (t : Step) (c n : ℕ → ℕ) (e : ℕ → Engine) → Visits a t c n e → 1 ≤ n 0 → Jumps a t c n e
+
+abbrev pub BranchEndless : Type 0
+BranchEndless =
+    (a : ℕ) (t : Step) (c n : ℕ → ℕ) (e : ℕ → Engine) → Visits a t c n e → ((k : ℕ) → n k ≡ 0) →
+    (k : ℕ) → branches (c k) (e k) a (n k) t ≡ ends (c k) (withCount a 0 (e k)) Keep 0 t

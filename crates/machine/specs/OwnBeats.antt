@@ -1,0 +1,77 @@
+-- The beats of one engine, one after another, and its visits of a branch: what a wait and a ramp do in each of their beats, and how often
+-- a branch jumps. That they do is `WaitTakes`, `RampTakes`, `RampVarTakes` and `BranchJumps` (specs/Theorems.antt).
+use Prim.Native.Nat.{ℕ, zero, suc, _+_, _-_, _*_, _≤_, _<_}
+use mathlib.Core.List.{List}
+use mathlib.Core.Path.{_≡_}
+use lib.ListN.{length, getD}
+use Rattle.word.specs.Profile.{Profile}
+use Rattle.word.specs.Decode.{wordAt}
+use Rattle.word.specs.declared.Step.{Step}
+use Rattle.word.specs.declared.Direction.{Direction}
+use Rattle.word.specs.declared.Word.{Word}
+use Rattle.machine.specs.declared.Progress.the-variants.{Waiting, Ramping}
+use Rattle.machine.specs.declared.Engine.{Engine}
+use Rattle.machine.specs.declared.Effect.the-variants.{Keep, Move}
+use Rattle.machine.specs.declared.BeatResult.{BeatResult}
+use Rattle.machine.specs.Parts.{withPending}
+use Rattle.machine.specs.WordEnd.{stepPc, ends, goesOn, lasts}
+use Rattle.machine.specs.Branches.{withCount, branches}
+use Rattle.machine.specs.Turn.{addressOf, returned, beatOf}
+
+-- What an engine meets: C, D and the memory in its beat k, and the triggers that are pending in it after that beat. Beats are counted
+-- from 1.
+pub record Surroundings : Type 0 where
+  pub c : ℕ → ℕ
+  pub d : ℕ → ℕ
+  pub memory : ℕ → List ℕ
+  pub pending : ℕ → ℕ
+
+-- Beat k of an engine that is e as it begins.
+abbrev pub beatIn : Profile → Surroundings → ℕ → Engine → BeatResult
+beatIn P s k e = beatOf P (s .c k) (s .d k) (s .memory k) e (e .progress)
+
+-- Engine e after k beats of its own. Between them others change nothing of it but its pending triggers.
+abbrev pub afterOwn : Profile → Surroundings → Engine → ℕ → Engine
+afterOwn P s e zero = e
+afterOwn P s e (suc k) = withPending (s .pending (suc k)) (beatIn P s (suc k) (afterOwn P s e k) .own)
+
+-- What its beat k gives.
+abbrev pub ownBeat : Profile → Surroundings → Engine → ℕ → BeatResult
+ownBeat P s e k = beatIn P s k (afterOwn P s e (k - 1))
+
+-- The word that an engine between words fetches.
+abbrev pub fetched : Profile → List ℕ → Engine → Word
+fetched P memory e = wordAt P memory (addressOf (returned P e .start) (returned P e .pc))
+
+-- Engine e as it fetched its word, with the triggers that are pending as its beat k begins.
+abbrev pub asFetched : Profile → Surroundings → Engine → ℕ → Engine
+asFetched P s e k = withPending (afterOwn P s e (k - 1) .pending) (returned P e)
+
+-- A wait of n beats: it lasts before beat n and ends in it. Until then nothing changes but the beats to come: the outputs are kept, no
+-- trigger is sent, and the engine is as it fetched the word.
+pub record Waits (P : Profile) (s : Surroundings) (e : Engine) (n : ℕ) : Type 0 where
+  pub before : (k : ℕ) → 1 ≤ k → k < n → ownBeat P s e k ≡ lasts (s .c k) (asFetched P s e k) Keep (Waiting (n - k))
+  pub last : ownBeat P s e n ≡ goesOn (s .c n) (asFetched P s e n)
+
+-- A ramp of n parts of b beats: the held outputs move in beats b, 2b and so on up to nb, in which it ends, and in no other.
+pub record Ramps (P : Profile) (s : Surroundings) (e : Engine) (dir : Direction) (b n : ℕ) : Type 0 where
+  pub inPart : (j i : ℕ) → j < n → 1 ≤ i → i < b → ownBeat P s e (j * b + i) ≡ lasts (s .c (j * b + i)) (asFetched P s e (j * b + i)) Keep (Ramping dir b (b - i) (n - j))
+  pub partEnd : (j : ℕ) → 1 ≤ j → j < n → ownBeat P s e (j * b) ≡ lasts (s .c (j * b)) (asFetched P s e (j * b)) (Move dir) (Ramping dir b b (n - j))
+  pub last : ownBeat P s e (n * b) ≡ ends (s .c (n * b)) (asFetched P s e (n * b)) (Move dir) 0 (stepPc (returned P e .pc) 1)
+
+-- "n=0 lasting as n=1": it moves nothing, as a wait.
+pub record RampLasts (P : Profile) (s : Surroundings) (e : Engine) (dir : Direction) (b n : ℕ) : Type 0 where
+  pub some : 1 ≤ n → Ramps P s e dir b n
+  pub none : n ≡ 0 → Waits P s e b
+
+-- Visits of the branch at address a to step t, counted from 0, from one at count 0 on. At visit k the engine is e k, C is c k, and the
+-- branch's loops, which a variable may give, are n k. Between visits nothing changes the count.
+pub record Visits (a : ℕ) (t : Step) (c n : ℕ → ℕ) (e : ℕ → Engine) : Type 0 where
+  pub within : (k : ℕ) → a < length (e k .loops)
+  pub begins : getD (e 0 .loops) a 0 ≡ 0
+  pub between : (k : ℕ) → getD (e (suc k) .loops) a 0 ≡ getD (branches (c k) (e k) a (n k) t .own .loops) a 0
+
+-- "So c>0 gives c jumps": visits 0 to c - 1 jump, where c is what visit 0 reads; visit c goes on, and leaves count 0.
+pub record Jumps (a : ℕ) (t : Step) (c n : ℕ → ℕ) (e : ℕ → Engine) : Type 0 where
+  pub jump : (k : ℕ) → k < n 0 → branches (c k) (e k) a (n k) t ≡ ends (c k) (withCount a (n 0 - k) (e k)) Keep 0 t
+  pub pass : branches (c (n 0)) (e (n 0)) a (n (n 0)) t ≡ goesOn (c (n 0)) (withCount a 0 (e (n 0)))
