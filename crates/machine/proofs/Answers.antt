@@ -89,7 +89,7 @@ some-true f (e ∷ es) d h =
     by-test (f e) (λ t. record { place = 0; isSo = t })
     (λ t. let s : Somewhere f es d = some-true f es d (rw t at h) in record { place = suc (s .place); isSo = s .isSo })
 
-some-false : (f : Engine → Bool) (es : List Engine) (d : Engine) → f d ≡ false → some f es ≡ false → (i : ℕ) → f (getD es i d) ≡ false
+pub some-false : (f : Engine → Bool) (es : List Engine) (d : Engine) → f d ≡ false → some f es ≡ false → (i : ℕ) → f (getD es i d) ≡ false
 some-false f [] d z h i = z
 some-false f (e ∷ es) d z h zero = or-false-left (f e) (some f es) h
 some-false f (e ∷ es) d z h (suc i) = some-false f es d z (or-false-right (f e) (some f es) h) i

@@ -13,6 +13,7 @@ pub mod WordsKept
 pub mod Quiet
 pub mod Safety
 pub mod Recorded
+pub mod OnChip
 pub mod Calls
 pub mod Moves
 pub mod Limits

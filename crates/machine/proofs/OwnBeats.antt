@@ -1,13 +1,14 @@
 -- What a wait and a ramp do in each of their beats, and how often a branch jumps.
 use Prim.Native.Nat.{ℕ, zero, suc, _+_, _-_, _*_, _≤_, _<_}
+use mathlib.Core.Bool.{true}
 use mathlib.Core.Path.{_≡_, refl, sym, ap, subst, _∙_}
 use native.Mathlib.Nat.{suc-mul}
 use native.Mathlib.Omega.{arith}
 use lib.Dec.{ltb, eqb}
 use lib.ListN.{getD}
 use lib.Seq.{getD-set-same}
-use borrow.Author.Tests.{le-leb, lt-leb, eq-eqb, ne-eqb}
-use Rattle.laws.proofs.Tests.{by-cond}
+use borrow.Author.Tests.{ltb-true, ltb-false, le-leb, lt-leb, eq-eqb, ne-eqb}
+use Rattle.laws.proofs.Tests.{by-test, by-cond, and-left}
 use Rattle.word.specs.Profile.{Profile, wordsOf}
 use Rattle.word.specs.Decode.{decodeOf}
 use Rattle.word.specs.declared.Step.{Step}
@@ -28,7 +29,7 @@ use Rattle.machine.specs.Durations.{beatsOf, clampTime, waits, ramps, ra
 use Rattle.machine.specs.Variables.{variable}
 use Rattle.machine.specs.Branches.{withCount, branchesAt, branches}
 use Rattle.machine.specs.Words.{begins}
-use Rattle.machine.specs.Turn.{addressOf, returned, beatOf}
+use Rattle.machine.specs.Turn.{isRun, midWord, acts, addressOf, returned, beatOf}
 use Rattle.machine.specs.OwnBeats.{Surroundings, beatIn, afterOwn, fetched, Waits, Ramps, RampLasts, Visits}
 use Rattle.machine.specs.Theorems.{WaitTakes, RampTakes, RampVarTakes, BranchJumps, BranchEndless}
 
@@ -76,6 +77,15 @@ module _ (P : Profile) (s : Surroundings) (e : Engine) where
   next-beat k c effect x h =
       ap (beatIn P s (suc (suc k))) (ap (λ (t : BeatResult). withPending (s .pending (suc k)) (t .own)) h)
 
+  -- the engine then acts
+  same-mode : returned P e .mode ≡ e .mode
+  same-mode = by-cond (λ (f : Engine). f .mode ≡ e .mode) (ltb (addressOf (e .start) (e .pc)) (wordsOf P)) (λ h. refl) (λ h. refl)
+
+  acts-next : (k c : ℕ) (effect : Effect) (x : Progress) → midWord x ≡ true → acts e ≡ true → result k ≡ lasts c (before k) effect x → acts (afterOwn P s e (suc k)) ≡ true
+  acts-next k c effect x w h r =
+      ap (λ (t : BeatResult). acts (withPending (s .pending (suc k)) (t .own))) r
+      ∙ rw (w, same-mode, and-left (isRun (e .mode)) _ h)
+
   -- waits
   abbrev WaitsAt : ℕ → ℕ → Type 0
   WaitsAt k n = result k ≡ waits (s .c (suc k)) (before k) n
@@ -97,6 +107,10 @@ module _ (P : Profile) (s : Surroundings) (e : Engine) where
       let z : i ≡ k - 1 = omega arith in
       subst (λ (x : ℕ). Gives G k x) z (subst (λ (x : ℕ). Gives G x i) (sym h) g)
 
+  wait-acts : (n : ℕ) → WaitsAt 0 n → acts e ≡ true → (k : ℕ) → k < n → acts (afterOwn P s e k) ≡ true
+  wait-acts n w a zero l = a
+  wait-acts n w a (suc k) l = acts-next k _ Keep (Waiting (n - k - 1)) refl a (wait-at n w k (omega arith) ∙ waits-on _ _ (n - k) (omega arith))
+
   waits-all : (n : ℕ) → 1 ≤ n → WaitsAt 0 n → Waits P s e n
   waits-all n p w =
       record {
@@ -105,6 +119,7 @@ module _ (P : Profile) (s : Surroundings) (e : Engine) where
             counted (λ (x : ℕ) (f : Engine). lasts (s .c x) f Keep (Waiting (n - k))) k (k - 1) (omega arith)
             (rw z (wait-at n w (k - 1) (omega arith) ∙ waits-on _ _ (n - (k - 1)) (omega arith)));
         last = counted (λ (x : ℕ) (f : Engine). goesOn (s .c x) f) n (n - 1) (omega arith) (wait-at n w (n - 1) (omega arith) ∙ waits-last _ _ (n - (n - 1)) (omega arith));
+        acting = wait-acts n w;
       }
 
   -- ramps: l beats to come in the part, n parts to come
@@ -147,6 +162,57 @@ module _ (P : Profile) (s : Surroundings) (e : Engine) where
       let z : n - suc j ≡ n - j - 1 = omega arith in
       rw (part-beats b j p, z) (ramp-next dir b (j * b + (b - 1)) 1 (n - j) (omega arith) (omega arith) (part-last dir b n p j (parts-at dir b n p w j (omega arith))))
 
+  -- after k beats, l are to come in the part, and r parts after it
+  record RampsOn (dir : Direction) (b n k : ℕ) : Type 0 where
+    l : ℕ
+    r : ℕ
+    at : RampsAt dir b k l (suc r)
+    some : 1 ≤ l
+    total : k + (l + r * b) ≡ n * b
+
+  ramp-begins : (dir : Direction) (b n : ℕ) → 1 ≤ b → 1 ≤ n → RampsAt dir b 0 b n → RampsOn dir b n 0
+  ramp-begins dir b n p q w =
+      let z : n ≡ suc (n - 1) = omega arith in
+      let t : suc (n - 1) * b ≡ (n - 1) * b + b = suc-mul (n - 1) b in
+      let y : n * b ≡ suc (n - 1) * b = ap (λ (x : ℕ). x * b) z in
+      record { l = b; r = n - 1; at = subst (RampsAt dir b 0 b) z w; some = p; total = omega arith }
+
+  ramp-goes : (dir : Direction) (b n k : ℕ) → 1 ≤ b → suc k < n * b → RampsOn dir b n k → RampsOn dir b n (suc k)
+  ramp-goes dir b n k p h o = go (o .l) (o .r) (o .at) (o .some) (o .total)
+    where
+      go : (l r : ℕ) → RampsAt dir b k l (suc r) → 1 ≤ l → k + (l + r * b) ≡ n * b → RampsOn dir b n (suc k)
+      go l r w q t =
+          by-test (ltb 1 l)
+          (λ g.
+          let i : 1 < l = ltb-true 1 l g in
+          record { l = l - 1; r = r; at = ramp-on dir b k l (suc r) i w; some = omega arith; total = omega arith })
+          (λ g. last r w t (ltb-false 1 l g))
+        where
+          last : (r : ℕ) → RampsAt dir b k l (suc r) → k + (l + r * b) ≡ n * b → l ≤ 1 → RampsOn dir b n (suc k)
+          last zero w t i = absurd (omega arith)
+          last (suc r) w t i =
+              let z : suc (suc r) - 1 ≡ suc r = omega arith in
+              let y : suc r * b ≡ r * b + b = suc-mul r b in
+              record { l = b; r = r; at = subst (RampsAt dir b (suc k) b) z (ramp-next dir b k l (suc (suc r)) i (omega arith) w); some = p; total = omega arith }
+
+  ramp-state : (dir : Direction) (b n : ℕ) → 1 ≤ b → 1 ≤ n → RampsAt dir b 0 b n → (k : ℕ) → k < n * b → RampsOn dir b n k
+  ramp-state dir b n p q w zero h = ramp-begins dir b n p q w
+  ramp-state dir b n p q w (suc k) h = ramp-goes dir b n k p h (ramp-state dir b n p q w k (omega arith))
+
+  ramp-acts : (dir : Direction) (b n : ℕ) → 1 ≤ b → acts e ≡ true → ((k : ℕ) → k < n * b → RampsOn dir b n k) → (k : ℕ) → k < n * b → acts (afterOwn P s e k) ≡ true
+  ramp-acts dir b n p a o zero h = a
+  ramp-acts dir b n p a o (suc k) h = let x = o k (omega arith) in go (x .l) (x .r) (x .at) (x .total)
+    where
+      go : (l r : ℕ) → RampsAt dir b k l (suc r) → k + (l + r * b) ≡ n * b → acts (afterOwn P s e (suc k)) ≡ true
+      go l r w t =
+          by-test (ltb 1 l)
+          (λ g. acts-next k _ Keep (Ramping dir b (l - 1) (suc r)) refl a (w ∙ ramps-on _ _ dir b l (suc r) (ltb-true 1 l g)))
+          (λ g. last r w t (ltb-false 1 l g))
+        where
+          last : (r : ℕ) → RampsAt dir b k l (suc r) → k + (l + r * b) ≡ n * b → l ≤ 1 → acts (afterOwn P s e (suc k)) ≡ true
+          last zero w t i = absurd (omega arith)
+          last (suc r) w t i = acts-next k _ (Move dir) (Ramping dir b b (suc (suc r) - 1)) refl a (w ∙ ramps-next _ _ dir b l (suc (suc r)) i (omega arith))
+
   ramps-all : (dir : Direction) (b n : ℕ) → 1 ≤ b → 1 ≤ n → RampsAt dir b 0 b n → Ramps P s e dir b n
   ramps-all dir b n p q w =
       record {
@@ -161,6 +227,7 @@ module _ (P : Profile) (s : Surroundings) (e : Engine) where
         last =
             counted (λ (x : ℕ) (f : Engine). ends (s .c x) f (Move dir) 0 (stepPc (returned P e .pc) 1)) (n * b) ((n - 1) * b + (b - 1)) (beats-before n q)
             (part-last dir b n p (n - 1) (parts-at dir b n p w (n - 1) (omega arith)) ∙ ramps-last _ _ dir b 1 (n - (n - 1)) (omega arith) (omega arith));
+        acting = λ a. ramp-acts dir b n p a (ramp-state dir b n p q w);
       }
     where
       beats-before : (j : ℕ) → 1 ≤ j → j * b ≡ suc ((j - 1) * b + (b - 1))

@@ -1,6 +1,7 @@
 -- The beats of one engine, one after another, and its visits of a branch: what a wait and a ramp do in each of their beats, and how often
 -- a branch jumps. That they do is `WaitTakes`, `RampTakes`, `RampVarTakes` and `BranchJumps` (specs/Theorems.antt).
 use Prim.Native.Nat.{ℕ, zero, suc, _+_, _-_, _*_, _≤_, _<_}
+use mathlib.Core.Bool.{true}
 use mathlib.Core.List.{List}
 use mathlib.Core.Path.{_≡_}
 use lib.ListN.{length, getD}
@@ -16,7 +17,7 @@ use Rattle.machine.specs.declared.BeatResult.{BeatResult}
 use Rattle.machine.specs.Parts.{withPending}
 use Rattle.machine.specs.WordEnd.{stepPc, ends, goesOn, lasts}
 use Rattle.machine.specs.Branches.{withCount, branches}
-use Rattle.machine.specs.Turn.{addressOf, returned, beatOf}
+use Rattle.machine.specs.Turn.{acts, addressOf, returned, beatOf}
 
 -- What an engine meets: C, D and the memory in its beat k, and the triggers that are pending in it after that beat. Beats are counted
 -- from 1.
@@ -48,16 +49,18 @@ abbrev pub asFetched : Profile → Surroundings → Engine → ℕ → Engine
 asFetched P s e k = withPending (afterOwn P s e (k - 1) .pending) (returned P e)
 
 -- A wait of n beats: it lasts before beat n and ends in it. Until then nothing changes but the beats to come: the outputs are kept, no
--- trigger is sent, and the engine is as it fetched the word.
+-- trigger is sent, and the engine is as it fetched the word. An engine that acts at first acts in all of them.
 pub record Waits (P : Profile) (s : Surroundings) (e : Engine) (n : ℕ) : Type 0 where
   pub before : (k : ℕ) → 1 ≤ k → k < n → ownBeat P s e k ≡ lasts (s .c k) (asFetched P s e k) Keep (Waiting (n - k))
   pub last : ownBeat P s e n ≡ goesOn (s .c n) (asFetched P s e n)
+  pub acting : acts e ≡ true → (k : ℕ) → k < n → acts (afterOwn P s e k) ≡ true
 
 -- A ramp of n parts of b beats: the held outputs move in beats b, 2b and so on up to nb, in which it ends, and in no other.
 pub record Ramps (P : Profile) (s : Surroundings) (e : Engine) (dir : Direction) (b n : ℕ) : Type 0 where
   pub inPart : (j i : ℕ) → j < n → 1 ≤ i → i < b → ownBeat P s e (j * b + i) ≡ lasts (s .c (j * b + i)) (asFetched P s e (j * b + i)) Keep (Ramping dir b (b - i) (n - j))
   pub partEnd : (j : ℕ) → 1 ≤ j → j < n → ownBeat P s e (j * b) ≡ lasts (s .c (j * b)) (asFetched P s e (j * b)) (Move dir) (Ramping dir b b (n - j))
   pub last : ownBeat P s e (n * b) ≡ ends (s .c (n * b)) (asFetched P s e (n * b)) (Move dir) 0 (stepPc (returned P e .pc) 1)
+  pub acting : acts e ≡ true → (k : ℕ) → k < n * b → acts (afterOwn P s e k) ≡ true
 
 -- "n=0 lasting as n=1": it moves nothing, as a wait.
 pub record RampLasts (P : Profile) (s : Surroundings) (e : Engine) (dir : Direction) (b n : ℕ) : Type 0 where

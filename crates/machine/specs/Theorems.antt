@@ -26,7 +26,7 @@ use Rattle.machine.specs.Durations.{beatsOf, clampTime}
 use Rattle.machine.specs.Outputs.{holder}
 use Rattle.machine.specs.Variables.{variable}
 use Rattle.machine.specs.Branches.{withCount, branches}
-use Rattle.machine.specs.Turn.{midWord, returned, turn}
+use Rattle.machine.specs.Turn.{midWord, acts, returned, applied, turn}
 use Rattle.machine.specs.Tick.{stopped, withPulse, tick}
 use Rattle.machine.specs.Outcome.{numberOf}
 use Rattle.machine.specs.Run.{quiet, beginning, mostBeats, runOf}
@@ -37,7 +37,7 @@ use Rattle.machine.specs.Calls.{Call, beat, run, after, afterAll, Allowe
 use Rattle.machine.specs.Trace.{Seen, Trace, begun, traceTick, traceCall, traceOf}
 use Rattle.machine.specs.Safe.{Safe, TableSafe}
 use Rattle.machine.specs.Refusals.{BurstCondition, RunCondition}
-use Rattle.machine.specs.OwnBeats.{Surroundings, fetched, Waits, RampLasts, Visits, Jumps}
+use Rattle.machine.specs.OwnBeats.{Surroundings, afterOwn, ownBeat, fetched, Waits, RampLasts, Visits, Jumps}
 
 -- 1. What demand 3 promises of a plan and an image: for every chip loaded with them, and every sequence of beats, runs, interrupt reads,
 -- and bursts that write only D and the run settings or are refused: the trace's chip is the one that the calls give, every turn is safe,
@@ -209,3 +209,38 @@ abbrev pub BranchEndless : Type 0
 BranchEndless =
     (a : ℕ) (t : Step) (c n : ℕ → ℕ) (e : ℕ → Engine) → Visits a t c n e → ((k : ℕ) → n k ≡ 0) →
     (k : ℕ) → branches (c k) (e k) a (n k) t ≡ ends (c k) (withCount a 0 (e k)) Keep 0 t
+
+-- 8. The own beats of an engine are its turns on a chip. The chip after k beats, with a pulse in beat j if `pulse j`:
+abbrev pub afterPulses : Profile → (ℕ → Bool) → Chip → ℕ → Chip
+afterPulses P pulse m zero = m
+afterPulses P pulse m (suc k) = tick P (pulse (suc k)) (afterPulses P pulse m k) .chip
+
+-- The chip as engine i's turn in beat k begins. There is no beat 0.
+abbrev pub atTurn : Profile → (ℕ → Bool) → Chip → ℕ → ℕ → Chip
+atTurn P pulse m i zero = m
+atTurn P pulse m i (suc k) = chipAtTurn P (pulse (suc k)) (afterPulses P pulse m k) i
+
+-- What engine i meets in these beats, and what it is as its first turn begins.
+abbrev pub metBy : Profile → (ℕ → Bool) → Chip → ℕ → Surroundings
+metBy P pulse m i =
+    record {
+      c = λ k. atTurn P pulse m i k .c;
+      d = λ k. atTurn P pulse m i k .d;
+      memory = λ k. atTurn P pulse m i k .memory;
+      pending = λ k. engineAt P (atTurn P pulse m i (suc k)) i .pending;
+    }
+
+abbrev pub atFirst : Profile → (ℕ → Bool) → Chip → ℕ → Engine
+atFirst P pulse m i = engineAt P (atTurn P pulse m i 1) i
+
+-- Its turn in beat k gives the chip what its own beat k gives.
+pub record TurnIsBeat (P : Profile) (pulse : ℕ → Bool) (m : Chip) (i k : ℕ) : Type 0 where
+  pub acting : acts (engineAt P (atTurn P pulse m i k) i) ≡ true
+  pub gives : turn P i (atTurn P pulse m i k) ≡ applied P i (atTurn P pulse m i k) (ownBeat P (metBy P pulse m i) (atFirst P pulse m i) k)
+
+-- So it is as long as the engine acts. By `acting` of `Waits` and `Ramps` that is so in every beat of a wait or a ramp.
+abbrev pub TurnsAreBeats : Type 0
+TurnsAreBeats =
+    (P : Profile) (pulse : ℕ → Bool) (m : Chip) (i k : ℕ) → stopped m ≡ false → i < enginesOf P → 1 ≤ k →
+    ((j : ℕ) → j < k → acts (afterOwn P (metBy P pulse m i) (atFirst P pulse m i) j) ≡ true) →
+    TurnIsBeat P pulse m i k

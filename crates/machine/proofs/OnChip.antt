@@ -1,0 +1,234 @@
+-- The own beats of an engine are its turns on a chip.
+use Prim.Native.Nat.{ℕ, zero, suc, _+_, _-_, _≤_, _<_}
+use mathlib.Core.Bool.{Bool, true, false, not, false≢true}
+use mathlib.Core.List.{List, [], _∷_}
+use mathlib.Core.Path.{_≡_, refl, sym, ap, subst, _∙_}
+use native.Mathlib.Omega.{arith}
+use lib.Bits.{bitAnd}
+use lib.Dec.{leb, ltb, eqb}
+use lib.ListN.{length, getD, set, List·getD-eq-default}
+use lib.Seq.{getD-set-same}
+use borrow.Author.Tests.{ltb-true, ltb-false, not-false}
+use Rattle.laws.proofs.Tests.{by-test, by-cond}
+use Rattle.word.specs.Profile.{Profile, wordsOf, enginesOf}
+use Rattle.word.specs.declared.Step.{Step}
+use Rattle.word.specs.declared.Direction.{Direction}
+use Rattle.word.specs.declared.Word.{Word}
+use Rattle.word.specs.declared.Word.the-variants.{Rst, Ramp, Wait, Set, RampVar, SetVar, BranchVar, Jump, Arith, ArithVar, MuxAt, MuxClr, MuxSel, MuxMove, Branch, End, Int, Trigger, Undefined}
+use Rattle.machine.specs.declared.Progress.{Progress}
+use Rattle.machine.specs.declared.Progress.the-variants.{BetweenWords, Waiting, Ramping, Triggering}
+use Rattle.machine.specs.declared.Engine.{Engine}
+use Rattle.machine.specs.declared.Chip.{Chip}
+use Rattle.machine.specs.declared.BeatResult.{BeatResult}
+use Rattle.machine.specs.declared.TurnResult.{TurnResult}
+use Rattle.machine.specs.Parts.{bit, zeroEngine, engineAt, withPending}
+use Rattle.machine.specs.WordEnd.{finish}
+use Rattle.machine.specs.Durations.{beatsOf, clampTime, waits, ramps, rampsFrom}
+use Rattle.machine.specs.Variables.{variable, assigns}
+use Rattle.machine.specs.Branches.{branches}
+use Rattle.machine.specs.Triggers.{triggers, receives, pulsed}
+use Rattle.machine.specs.TablePointers.{points}
+use Rattle.machine.specs.Words.{stops, begins}
+use Rattle.machine.specs.Turn.{acts, addressOf, returned, beatOf, applied, turnIf, turn}
+use Rattle.machine.specs.Tick.{some, isLoad, loads, stopped, withPulse, tick}
+use Rattle.machine.specs.Trace.{begun}
+use Rattle.machine.specs.OwnBeats.{Surroundings, beatIn, afterOwn}
+use Rattle.machine.specs.Theorems.{chipAtTurn, afterPulses, atTurn, metBy, atFirst, TurnIsBeat, TurnsAreBeats}
+use Rattle.machine.proofs.Common.{each-leaves, each-keeps, set-keeps, or-false-left, or-false-right}
+use Rattle.machine.proofs.Frame.{receives-rest, frame}
+use Rattle.machine.proofs.Safety.{turn-acts}
+use Rattle.machine.proofs.Recorded.{beats-recorded}
+use Rattle.machine.proofs.Answers.{some-false}
+
+-- No beat makes an engine load.
+abbrev Unloaded : Engine → Type 0
+Unloaded e = isLoad (e .mode) ≡ false
+
+module _ (P : Profile) (e : Engine) (h : Unloaded e) where
+  abbrev Gives : BeatResult → Type 0
+  Gives t = Unloaded (t .own)
+
+  waits-mode : (c n : ℕ) → Gives (waits c e n)
+  unfolding waits finish
+  waits-mode c n = by-cond Gives (leb n 1) (λ z. h) (λ z. h)
+
+  ramps-mode : (c : ℕ) (dir : Direction) (p l n : ℕ) → Gives (ramps c e dir p l n)
+  unfolding ramps finish
+  ramps-mode c dir p l n = by-cond Gives (leb l 1) (λ z. by-cond Gives (leb n 1) (λ y. h) (λ y. h)) (λ z. h)
+
+  ramps-from : (c : ℕ) (dir : Direction) (p n : ℕ) → Gives (rampsFrom c e dir p n)
+  ramps-from c dir p n = by-cond Gives (eqb n 0) (λ z. waits-mode c p) (λ z. ramps-mode c dir p p n)
+
+  branches-mode : (c a n : ℕ) (s : Step) → Gives (branches c e a n s)
+  unfolding branches finish
+  branches-mode c a n s = by-cond Gives (eqb (getD (e .loops) a 0) 0) (λ z. h) (λ z. by-cond Gives (eqb (getD (e .loops) a 0) 1) (λ y. h) (λ y. h))
+
+  triggers-mode : (c w x : ℕ) → Gives (triggers c e w x)
+  unfolding triggers finish
+  triggers-mode c w x = by-cond Gives (eqb (bitAnd (e .pending) w) w) (λ z. h) (λ z. h)
+
+  begins-mode : (c d : ℕ) (memory : List ℕ) (a : ℕ) (w : Word) → Gives (begins P c d memory e a w)
+  unfolding begins finish assigns points stops
+  begins-mode c d memory a Rst = h
+  begins-mode c d memory a (Ramp p t dir n) = ramps-from c dir _ n
+  begins-mode c d memory a (Wait p t) = waits-mode c _
+  begins-mode c d memory a (Set n) = h
+  begins-mode c d memory a (RampVar p dir l r) = ramps-from c dir (beatsOf p (clampTime (variable c d e l))) (variable c d e r)
+  begins-mode c d memory a (SetVar v) = h
+  begins-mode c d memory a (BranchVar v s) = branches-mode c a _ s
+  begins-mode c d memory a (Jump op k l r) = h
+  begins-mode c d memory a (Arith op v n) = h
+  begins-mode c d memory a (ArithVar op v l r) = h
+  begins-mode c d memory a (MuxAt op x) = h
+  begins-mode c d memory a MuxClr = h
+  begins-mode c d memory a (MuxSel k) = h
+  begins-mode c d memory a (MuxMove op) = h
+  begins-mode c d memory a (Branch n s) = branches-mode c a n s
+  begins-mode c d memory a (End i z) = h
+  begins-mode c d memory a Int = h
+  begins-mode c d memory a (Trigger w x) = triggers-mode c w x
+  begins-mode c d memory a Undefined = refl
+
+beat-mode : (P : Profile) (c d : ℕ) (memory : List ℕ) (e : Engine) (x : Progress) → Unloaded e → Unloaded (beatOf P c d memory e x .own)
+unfolding beatOf
+beat-mode P c d memory e BetweenWords h =
+    begins-mode P (returned P e) (by-cond Unloaded (ltb (addressOf (e .start) (e .pc)) (wordsOf P)) (λ z. h) (λ z. h)) c d memory _ _
+beat-mode P c d memory e (Waiting n) h = waits-mode P e h c n
+beat-mode P c d memory e (Ramping dir p l n) h = ramps-mode P e h c dir p l n
+beat-mode P c d memory e (Triggering w x) h = triggers-mode P e h c w x
+
+-- A chip that isn't stopped stays so.
+record Going (P : Profile) (m : Chip) : Type 0 where
+  enabled : m .enabled ≡ true
+  none : (j : ℕ) → Unloaded (engineAt P m j)
+
+none-some : (f : Engine → Bool) (es : List Engine) (d : Engine) → ((i : ℕ) → f (getD es i d) ≡ false) → some f es ≡ false
+none-some f [] d h = refl
+none-some f (e ∷ es) d h = rw (h 0) (none-some f es d (λ i. h (suc i)))
+
+going : (P : Profile) (m : Chip) → stopped m ≡ false → Going P m
+unfolding stopped
+going P m h =
+    record {
+      enabled = not-false (m .enabled) (or-false-left (not (m .enabled)) (some loads (m .engines)) h);
+      none = some-false loads (m .engines) (zeroEngine P) refl (or-false-right (not (m .enabled)) (some loads (m .engines)) h);
+    }
+
+not-stopped : (P : Profile) (m : Chip) → Going P m → stopped m ≡ false
+unfolding stopped
+not-stopped P m g = rw (g .enabled) (none-some loads (m .engines) (zeroEngine P) (g .none))
+
+turn-going : (P : Profile) (i : ℕ) (m : Chip) → Going P m → Going P (turn P i m .chip)
+unfolding turn receives
+turn-going P i m g = go (acts (engineAt P m i))
+  where
+    t : BeatResult
+    t = beatOf P (m .c) (m .d) (m .memory) (engineAt P m i) (engineAt P m i .progress)
+
+    go : (b : Bool) → Going P (turnIf P i m b .chip)
+    go true =
+        record {
+          enabled = g .enabled;
+          none = λ j.
+              each-keeps Unloaded (receives i (t .send)) (λ k e h. by-cond Unloaded (bit (t .send) k) (λ z. h) (λ z. h)) 0 j (set (m .engines) i (t .own)) (zeroEngine P)
+              (set-keeps Unloaded (m .engines) i j (t .own) (zeroEngine P) (beat-mode P (m .c) (m .d) (m .memory) (engineAt P m i) (engineAt P m i .progress) (g .none i)) (g .none j));
+        }
+    go false = g
+
+pulse-going : (P : Profile) (b : Bool) (m : Chip) → Going P m → Going P (withPulse b m)
+unfolding pulsed
+pulse-going P b m g =
+    record { enabled = g .enabled; none = λ j. each-keeps Unloaded (pulsed b) (λ k e h. by-cond Unloaded b (λ z. h) (λ z. h)) 0 j (m .engines) (zeroEngine P) (g .none j) }
+
+turns-going : (P : Profile) (b : Bool) (m : Chip) (n : ℕ) → Going P m → Going P (chipAtTurn P b m n)
+turns-going P b m zero g = pulse-going P b m g
+turns-going P b m (suc n) g = turn-going P n (chipAtTurn P b m n) (turns-going P b m n g)
+
+beat-chip : (P : Profile) (b : Bool) (m : Chip) → Going P m → tick P b m .chip ≡ chipAtTurn P b m (enginesOf P)
+beat-chip P b m g = beats-recorded P b (begun m) (not-stopped P m g) .chip
+
+beat-going : (P : Profile) (b : Bool) (m : Chip) → Going P m → Going P (tick P b m .chip)
+beat-going P b m g = subst (Going P) (sym (beat-chip P b m g)) (turns-going P b m (enginesOf P) g)
+
+-- Between its turns nothing of an engine changes but its pending triggers.
+abbrev rest : Profile → Chip → ℕ → Engine
+rest P m i = withPending 0 (engineAt P m i)
+
+pulsed-rest : (P : Profile) (b : Bool) (m : Chip) (i : ℕ) → rest P (withPulse b m) i ≡ rest P m i
+unfolding pulsed
+pulsed-rest P b m i =
+    each-leaves (withPending 0) (pulsed b) (λ k e. by-cond (λ (f : Engine). withPending 0 f ≡ withPending 0 e) b (λ z. refl) (λ z. refl)) 0 i (m .engines) (zeroEngine P)
+
+others-rest : (P : Profile) (b : Bool) (m : Chip) (i k n : ℕ) → ((j : ℕ) → k ≤ j → j < k + n → j ≡ i → ⊥) → rest P (chipAtTurn P b m (k + n)) i ≡ rest P (chipAtTurn P b m k) i
+others-rest P b m i k zero h = let z : k + 0 ≡ k = omega arith in rw z
+others-rest P b m i k (suc n) h =
+    let z : k + suc n ≡ suc (k + n) = omega arith in
+    rw z (frame P (k + n) (chipAtTurn P b m (k + n)) .engines i (λ e. h (k + n) (omega arith) (omega arith) (sym e))
+    ∙ others-rest P b m i k n (λ j l r. h j l (omega arith)))
+
+-- from the end of engine i's turn in a beat to its turn in the next
+next-rest : (P : Profile) (b d : Bool) (m : Chip) (i : ℕ) → Going P m → i < enginesOf P →
+    rest P (chipAtTurn P d (tick P b m .chip) i) i ≡ rest P (turn P i (chipAtTurn P b m i) .chip) i
+next-rest P b d m i g h =
+    let y : 0 + i ≡ i = omega arith in
+    let z : suc i + (enginesOf P - suc i) ≡ enginesOf P = omega arith in
+    let n : Chip = tick P b m .chip in
+    (rw y at (others-rest P d n i 0 i (λ j l r. omega arith)))
+    ∙ pulsed-rest P d n i
+    ∙ ap (λ (x : Chip). rest P x i) (beat-chip P b m g)
+    ∙ (rw z at (others-rest P b m i (suc i) (enginesOf P - suc i) (λ j l r. omega arith)))
+
+-- an engine that acts is one of the chip's
+acts-within : (P : Profile) (m : Chip) (i : ℕ) → acts (engineAt P m i) ≡ true → i < length (m .engines)
+acts-within P m i h =
+    by-test (ltb i (length (m .engines))) (ltb-true i (length (m .engines)))
+    (λ l. absurd (false≢true (sym (ap acts (List·getD-eq-default (m .engines) (zeroEngine P) (ltb-false i (length (m .engines)) l))) ∙ h)))
+
+-- what its turn leaves of it
+own-rest : (P : Profile) (i : ℕ) (m : Chip) → acts (engineAt P m i) ≡ true →
+    rest P (turn P i m .chip) i ≡ withPending 0 (beatOf P (m .c) (m .d) (m .memory) (engineAt P m i) (engineAt P m i .progress) .own)
+own-rest P i m h =
+    let t : BeatResult = beatOf P (m .c) (m .d) (m .memory) (engineAt P m i) (engineAt P m i .progress) in
+    ap (λ (r : TurnResult). rest P (r .chip) i) (turn-acts P i m h)
+    ∙ each-leaves (withPending 0) (receives i (t .send)) (receives-rest i (t .send)) 0 i (set (m .engines) i (t .own)) (zeroEngine P)
+    ∙ ap (withPending 0) (getD-set-same (m .engines) i (t .own) (zeroEngine P) (acts-within P m i h))
+
+-- engines that differ in their pending triggers alone
+same-but-pending : (e f : Engine) → withPending 0 e ≡ withPending 0 f → e ≡ withPending (e .pending) f
+same-but-pending e f h = ap (withPending (e .pending)) h
+
+module _ (P : Profile) (pulse : ℕ → Bool) (m : Chip) (i : ℕ) (g : Going P m) (w : i < enginesOf P) where
+  abbrev met : Surroundings
+  met = metBy P pulse m i
+
+  abbrev first : Engine
+  first = atFirst P pulse m i
+
+  beats-going : (k : ℕ) → Going P (afterPulses P pulse m k)
+  beats-going zero = g
+  beats-going (suc k) = beat-going P (pulse (suc k)) (afterPulses P pulse m k) (beats-going k)
+
+  engine-then : (k : ℕ) → ((j : ℕ) → j < k → acts (afterOwn P met first j) ≡ true) → engineAt P (atTurn P pulse m i (suc k)) i ≡ afterOwn P met first k
+  engine-then zero a = refl
+  engine-then (suc k) a =
+      let n : Chip = atTurn P pulse m i (suc k) in
+      let e : engineAt P n i ≡ afterOwn P met first k = engine-then k (λ j l. a j (omega arith)) in
+      same-but-pending (engineAt P (atTurn P pulse m i (suc (suc k))) i) (beatIn P met (suc k) (afterOwn P met first k) .own)
+      (next-rest P (pulse (suc k)) (pulse (suc (suc k))) (afterPulses P pulse m k) i (beats-going k) w
+      ∙ own-rest P i n (ap acts e ∙ a k (omega arith))
+      ∙ ap (λ (f : Engine). withPending 0 (beatIn P met (suc k) f .own)) e)
+
+  turn-then : (k : ℕ) → ((j : ℕ) → j < suc k → acts (afterOwn P met first j) ≡ true) → TurnIsBeat P pulse m i (suc k)
+  turn-then k a =
+      let n : Chip = atTurn P pulse m i (suc k) in
+      let e : engineAt P n i ≡ afterOwn P met first k = engine-then k (λ j l. a j (omega arith)) in
+      let y : acts (engineAt P n i) ≡ true = ap acts e ∙ a k (omega arith) in
+      let z : k ≡ suc k - 1 = omega arith in
+      record {
+        acting = y;
+        gives = turn-acts P i n y ∙ ap (λ (f : Engine). applied P i n (beatIn P met (suc k) f)) (e ∙ ap (afterOwn P met first) z);
+      }
+
+pub turns-are-beats : TurnsAreBeats
+turns-are-beats P pulse m i zero h w p a = absurd (omega arith)
+turns-are-beats P pulse m i (suc k) h w p a = turn-then P pulse m i (going P m h) w k a
