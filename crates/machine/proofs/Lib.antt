@@ -7,6 +7,7 @@ pub mod RowBits
 pub mod Run
 pub mod Answers
 pub mod OwnBeats
+pub mod Counts
 pub mod Closed
 pub mod Kept
 pub mod WordsKept

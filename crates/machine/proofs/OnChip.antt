@@ -4,98 +4,32 @@ use mathlib.Core.Bool.{Bool, true, false, not, false≢true}
 use mathlib.Core.List.{List, [], _∷_}
 use mathlib.Core.Path.{_≡_, refl, sym, ap, subst, _∙_}
 use native.Mathlib.Omega.{arith}
-use lib.Bits.{bitAnd}
-use lib.Dec.{leb, ltb, eqb}
+use lib.Dec.{ltb}
 use lib.ListN.{length, getD, set, List·getD-eq-default}
 use lib.Seq.{getD-set-same}
 use borrow.Author.Tests.{ltb-true, ltb-false, not-false}
 use Rattle.laws.proofs.Tests.{by-test, by-cond}
-use Rattle.word.specs.Profile.{Profile, wordsOf, enginesOf}
-use Rattle.word.specs.declared.Step.{Step}
-use Rattle.word.specs.declared.Direction.{Direction}
-use Rattle.word.specs.declared.Word.{Word}
-use Rattle.word.specs.declared.Word.the-variants.{Rst, Ramp, Wait, Set, RampVar, SetVar, BranchVar, Jump, Arith, ArithVar, MuxAt, MuxClr, MuxSel, MuxMove, Branch, End, Int, Trigger, Undefined}
-use Rattle.machine.specs.declared.Progress.{Progress}
-use Rattle.machine.specs.declared.Progress.the-variants.{BetweenWords, Waiting, Ramping, Triggering}
+use Rattle.word.specs.Profile.{Profile, enginesOf}
 use Rattle.machine.specs.declared.Engine.{Engine}
 use Rattle.machine.specs.declared.Chip.{Chip}
 use Rattle.machine.specs.declared.BeatResult.{BeatResult}
 use Rattle.machine.specs.declared.TurnResult.{TurnResult}
 use Rattle.machine.specs.Parts.{bit, zeroEngine, engineAt, withPending}
-use Rattle.machine.specs.WordEnd.{finish}
-use Rattle.machine.specs.Durations.{beatsOf, clampTime, waits, ramps, rampsFrom}
-use Rattle.machine.specs.Variables.{variable, assigns}
-use Rattle.machine.specs.Branches.{branches}
-use Rattle.machine.specs.Triggers.{triggers, receives, pulsed}
-use Rattle.machine.specs.TablePointers.{points}
-use Rattle.machine.specs.Words.{stops, begins}
-use Rattle.machine.specs.Turn.{acts, addressOf, returned, beatOf, applied, turnIf, turn}
+use Rattle.machine.specs.Triggers.{receives, pulsed}
+use Rattle.machine.specs.Turn.{acts, beatOf, applied, turnIf, turn}
 use Rattle.machine.specs.Tick.{some, isLoad, loads, stopped, withPulse, tick}
-use Rattle.machine.specs.Trace.{begun}
-use Rattle.machine.specs.OwnBeats.{Surroundings, beatIn, afterOwn}
-use Rattle.machine.specs.Theorems.{chipAtTurn, afterPulses, atTurn, metBy, atFirst, TurnIsBeat, TurnsAreBeats}
+use Rattle.machine.specs.Trace.{begun, chipAtTurn}
+use Rattle.machine.specs.OwnBeats.{Surroundings, beatIn, afterOwn, afterPulses, atTurn, metBy, atFirst, TurnIsBeat}
+use Rattle.machine.specs.Theorems.{TurnsAreBeats}
 use Rattle.machine.proofs.Common.{each-leaves, each-keeps, set-keeps, or-false-left, or-false-right}
 use Rattle.machine.proofs.Frame.{receives-rest, frame}
 use Rattle.machine.proofs.Safety.{turn-acts}
 use Rattle.machine.proofs.Recorded.{beats-recorded}
 use Rattle.machine.proofs.Answers.{some-false}
+use Rattle.machine.proofs.Counts.{beat-leaves}
 
--- No beat makes an engine load.
 abbrev Unloaded : Engine → Type 0
 Unloaded e = isLoad (e .mode) ≡ false
-
-module _ (P : Profile) (e : Engine) (h : Unloaded e) where
-  abbrev Gives : BeatResult → Type 0
-  Gives t = Unloaded (t .own)
-
-  waits-mode : (c n : ℕ) → Gives (waits c e n)
-  unfolding waits finish
-  waits-mode c n = by-cond Gives (leb n 1) (λ z. h) (λ z. h)
-
-  ramps-mode : (c : ℕ) (dir : Direction) (p l n : ℕ) → Gives (ramps c e dir p l n)
-  unfolding ramps finish
-  ramps-mode c dir p l n = by-cond Gives (leb l 1) (λ z. by-cond Gives (leb n 1) (λ y. h) (λ y. h)) (λ z. h)
-
-  ramps-from : (c : ℕ) (dir : Direction) (p n : ℕ) → Gives (rampsFrom c e dir p n)
-  ramps-from c dir p n = by-cond Gives (eqb n 0) (λ z. waits-mode c p) (λ z. ramps-mode c dir p p n)
-
-  branches-mode : (c a n : ℕ) (s : Step) → Gives (branches c e a n s)
-  unfolding branches finish
-  branches-mode c a n s = by-cond Gives (eqb (getD (e .loops) a 0) 0) (λ z. h) (λ z. by-cond Gives (eqb (getD (e .loops) a 0) 1) (λ y. h) (λ y. h))
-
-  triggers-mode : (c w x : ℕ) → Gives (triggers c e w x)
-  unfolding triggers finish
-  triggers-mode c w x = by-cond Gives (eqb (bitAnd (e .pending) w) w) (λ z. h) (λ z. h)
-
-  begins-mode : (c d : ℕ) (memory : List ℕ) (a : ℕ) (w : Word) → Gives (begins P c d memory e a w)
-  unfolding begins finish assigns points stops
-  begins-mode c d memory a Rst = h
-  begins-mode c d memory a (Ramp p t dir n) = ramps-from c dir _ n
-  begins-mode c d memory a (Wait p t) = waits-mode c _
-  begins-mode c d memory a (Set n) = h
-  begins-mode c d memory a (RampVar p dir l r) = ramps-from c dir (beatsOf p (clampTime (variable c d e l))) (variable c d e r)
-  begins-mode c d memory a (SetVar v) = h
-  begins-mode c d memory a (BranchVar v s) = branches-mode c a _ s
-  begins-mode c d memory a (Jump op k l r) = h
-  begins-mode c d memory a (Arith op v n) = h
-  begins-mode c d memory a (ArithVar op v l r) = h
-  begins-mode c d memory a (MuxAt op x) = h
-  begins-mode c d memory a MuxClr = h
-  begins-mode c d memory a (MuxSel k) = h
-  begins-mode c d memory a (MuxMove op) = h
-  begins-mode c d memory a (Branch n s) = branches-mode c a n s
-  begins-mode c d memory a (End i z) = h
-  begins-mode c d memory a Int = h
-  begins-mode c d memory a (Trigger w x) = triggers-mode c w x
-  begins-mode c d memory a Undefined = refl
-
-beat-mode : (P : Profile) (c d : ℕ) (memory : List ℕ) (e : Engine) (x : Progress) → Unloaded e → Unloaded (beatOf P c d memory e x .own)
-unfolding beatOf
-beat-mode P c d memory e BetweenWords h =
-    begins-mode P (returned P e) (by-cond Unloaded (ltb (addressOf (e .start) (e .pc)) (wordsOf P)) (λ z. h) (λ z. h)) c d memory _ _
-beat-mode P c d memory e (Waiting n) h = waits-mode P e h c n
-beat-mode P c d memory e (Ramping dir p l n) h = ramps-mode P e h c dir p l n
-beat-mode P c d memory e (Triggering w x) h = triggers-mode P e h c w x
 
 -- A chip that isn't stopped stays so.
 record Going (P : Profile) (m : Chip) : Type 0 where
@@ -131,7 +65,7 @@ turn-going P i m g = go (acts (engineAt P m i))
           enabled = g .enabled;
           none = λ j.
               each-keeps Unloaded (receives i (t .send)) (λ k e h. by-cond Unloaded (bit (t .send) k) (λ z. h) (λ z. h)) 0 j (set (m .engines) i (t .own)) (zeroEngine P)
-              (set-keeps Unloaded (m .engines) i j (t .own) (zeroEngine P) (beat-mode P (m .c) (m .d) (m .memory) (engineAt P m i) (engineAt P m i .progress) (g .none i)) (g .none j));
+              (set-keeps Unloaded (m .engines) i j (t .own) (zeroEngine P) (beat-leaves P (m .c) (m .d) (m .memory) (engineAt P m i) 0 (engineAt P m i .progress) .unloaded (g .none i)) (g .none j));
         }
     go false = g
 

@@ -1,17 +1,14 @@
--- What a wait and a ramp do in each of their beats, and how often a branch jumps.
+-- What a wait and a ramp do in each of their beats.
 use Prim.Native.Nat.{ℕ, zero, suc, _+_, _-_, _*_, _≤_, _<_}
 use mathlib.Core.Bool.{true}
 use mathlib.Core.Path.{_≡_, refl, sym, ap, subst, _∙_}
 use native.Mathlib.Nat.{suc-mul}
 use native.Mathlib.Omega.{arith}
 use lib.Dec.{ltb, eqb}
-use lib.ListN.{getD}
-use lib.Seq.{getD-set-same}
 use borrow.Author.Tests.{ltb-true, ltb-false, le-leb, lt-leb, eq-eqb, ne-eqb}
 use Rattle.laws.proofs.Tests.{by-test, by-cond, and-left}
 use Rattle.word.specs.Profile.{Profile, wordsOf}
 use Rattle.word.specs.Decode.{decodeOf}
-use Rattle.word.specs.declared.Step.{Step}
 use Rattle.word.specs.declared.Direction.{Direction}
 use Rattle.word.specs.declared.Direction.the-variants.{Up, Down}
 use Rattle.word.specs.declared.Word.{Word}
@@ -27,11 +24,10 @@ use Rattle.machine.specs.Parts.{withPending, withProgress}
 use Rattle.machine.specs.WordEnd.{stepPc, finish, ends, goesOn, lasts}
 use Rattle.machine.specs.Durations.{beatsOf, clampTime, waits, ramps, rampsFrom}
 use Rattle.machine.specs.Variables.{variable}
-use Rattle.machine.specs.Branches.{withCount, branchesAt, branches}
 use Rattle.machine.specs.Words.{begins}
 use Rattle.machine.specs.Turn.{isRun, midWord, acts, addressOf, returned, beatOf}
-use Rattle.machine.specs.OwnBeats.{Surroundings, beatIn, afterOwn, fetched, Waits, Ramps, RampLasts, Visits}
-use Rattle.machine.specs.Theorems.{WaitTakes, RampTakes, RampVarTakes, BranchJumps, BranchEndless}
+use Rattle.machine.specs.OwnBeats.{Surroundings, beatIn, afterOwn, fetched, Waits, Ramps, RampLasts}
+use Rattle.machine.specs.Theorems.{WaitTakes, RampTakes, RampVarTakes}
 
 -- one beat of a wait and of a ramp, by what is to come
 waits-last : (c : ℕ) (e : Engine) (n : ℕ) → n ≤ 1 → waits c e n ≡ goesOn c e
@@ -280,48 +276,3 @@ unfolding begins
 ramp-var-takes P s e p dir l r b h =
     ramp-lasts P s e dir (beatsOf p (clampTime (variable (s .c 1) (s .d 1) (returned P e) l))) (variable (s .c 1) (s .d 1) (returned P e) r)
     (beats-some p (clampTime (variable (s .c 1) (s .d 1) (returned P e) l)) (omega arith)) (first-beat P s e (RampVar p dir l r) b h)
-
--- branches, by their count
-branch-reads : (c : ℕ) (e : Engine) (a n : ℕ) (t : Step) → getD (e .loops) a 0 ≡ 0 → branches c e a n t ≡ ends c (withCount a n e) Keep 0 t
-unfolding branches
-branch-reads c e a n t h = ap (branchesAt c e a n t) h
-
-branch-passes : (c : ℕ) (e : Engine) (a n : ℕ) (t : Step) → getD (e .loops) a 0 ≡ 1 → branches c e a n t ≡ goesOn c (withCount a 0 e)
-unfolding branches
-branch-passes c e a n t h = ap (branchesAt c e a n t) h
-
-branch-counts : (c : ℕ) (e : Engine) (a n : ℕ) (t : Step) (k : ℕ) → 1 < k → getD (e .loops) a 0 ≡ k → branches c e a n t ≡ ends c (withCount a (k - 1) e) Keep 0 t
-unfolding branches
-branch-counts c e a n t k l h = ap (branchesAt c e a n t) h ∙ rw (ne-eqb k 0 (λ z. omega arith), ne-eqb k 1 (λ z. omega arith))
-
-module _ (a : ℕ) (t : Step) (c n : ℕ → ℕ) (e : ℕ → Engine) (v : Visits a t c n e) where
-  -- the count that a visit leaves is the one that the next meets
-  left : (k x : ℕ) → branches (c k) (e k) a (n k) t ≡ ends (c k) (withCount a x (e k)) Keep 0 t → getD (e (suc k) .loops) a 0 ≡ x
-  unfolding finish
-  left k x h = v .between k ∙ ap (λ (r : BeatResult). getD (r .own .loops) a 0) h ∙ getD-set-same (e k .loops) a x 0 (v .within k)
-
-  jumps-at : (k : ℕ) → k < n 0 → branches (c k) (e k) a (n k) t ≡ ends (c k) (withCount a (n 0 - k) (e k)) Keep 0 t
-  jumps-at zero h = let z : n 0 - 0 ≡ n 0 = omega arith in rw z (branch-reads (c 0) (e 0) a (n 0) t (v .begins))
-  jumps-at (suc k) h =
-      let z : n 0 - suc k ≡ n 0 - k - 1 = omega arith in
-      rw z (branch-counts (c (suc k)) (e (suc k)) a (n (suc k)) t (n 0 - k) (omega arith) (left k (n 0 - k) (jumps-at k (omega arith))))
-
-  passes-at : (k : ℕ) → n 0 ≡ suc k → branches (c (suc k)) (e (suc k)) a (n (suc k)) t ≡ goesOn (c (suc k)) (withCount a 0 (e (suc k)))
-  passes-at k h =
-      let z : n 0 - k ≡ 1 = omega arith in
-      branch-passes (c (suc k)) (e (suc k)) a (n (suc k)) t (left k (n 0 - k) (jumps-at k (omega arith)) ∙ z)
-
-  endless-at : ((k : ℕ) → n k ≡ 0) → (k : ℕ) → getD (e k .loops) a 0 ≡ 0
-  endless-at z zero = v .begins
-  endless-at z (suc k) = left k (n k) (branch-reads (c k) (e k) a (n k) t (endless-at z k)) ∙ z k
-
-pub branch-jumps : BranchJumps
-branch-jumps a t c n e v h =
-    let z : n 0 ≡ suc (n 0 - 1) = omega arith in
-    record {
-      jump = jumps-at a t c n e v;
-      pass = subst (λ (k : ℕ). branches (c k) (e k) a (n k) t ≡ goesOn (c k) (withCount a 0 (e k))) (sym z) (passes-at a t c n e v (n 0 - 1) z);
-    }
-
-pub branch-endless : BranchEndless
-branch-endless a t c n e v z k = branch-reads (c k) (e k) a (n k) t (endless-at a t c n e v z k) ∙ ap (λ (x : ℕ). ends (c k) (withCount a x (e k)) Keep 0 t) (z k)

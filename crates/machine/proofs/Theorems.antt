@@ -1,5 +1,5 @@
 -- The theorems of specs/Theorems.antt, each with the file that proves it.
-use Rattle.machine.specs.Theorems.{Demand3, CheckedSafe, Frame, OthersKept, NewChipWithin, StaysWithin, NewChipPc, PcStays, RefusedBurst, RefusedRun, StoppedBeat, BurstAnswers, RunAnswers, RunIsBeats, BeatsRecorded, StoppedRecorded, RunRecorded, WaitTakes, RampTakes, RampVarTakes, BranchJumps, BranchEndless, TurnsAreBeats}
+use Rattle.machine.specs.Theorems.{Demand3, CheckedSafe, Frame, OthersKept, NewChipWithin, StaysWithin, NewChipPc, PcStays, RefusedBurst, RefusedRun, StoppedBeat, BurstAnswers, RunAnswers, RunIsBeats, BeatsRecorded, StoppedRecorded, RunRecorded, WaitTakes, RampTakes, RampVarTakes, BranchJumps, BranchEndless, BeatsKeepCounts, TurnsAreBeats}
 use Rattle.machine.proofs.Safety as safety
 use Rattle.machine.proofs.Frame as framed
 use Rattle.machine.proofs.Limits as limits
@@ -8,6 +8,7 @@ use Rattle.machine.proofs.Answers as answers
 use Rattle.machine.proofs.Run as running
 use Rattle.machine.proofs.Recorded as recorded
 use Rattle.machine.proofs.OwnBeats as own
+use Rattle.machine.proofs.Counts as counts
 use Rattle.machine.proofs.OnChip as chips
 
 pub demand-3 : Demand3
@@ -71,10 +72,13 @@ pub ramp-var-takes : RampVarTakes
 ramp-var-takes = own.ramp-var-takes
 
 pub branch-jumps : BranchJumps
-branch-jumps = own.branch-jumps
+branch-jumps = counts.branch-jumps
 
 pub branch-endless : BranchEndless
-branch-endless = own.branch-endless
+branch-endless = counts.branch-endless
+
+pub beats-keep-counts : BeatsKeepCounts
+beats-keep-counts = counts.beats-keep-counts
 
 pub turns-are-beats : TurnsAreBeats
 turns-are-beats = chips.turns-are-beats

@@ -1,7 +1,8 @@
 -- The beats of one engine, one after another, and its visits of a branch: what a wait and a ramp do in each of their beats, and how often
--- a branch jumps. That they do is `WaitTakes`, `RampTakes`, `RampVarTakes` and `BranchJumps` (specs/Theorems.antt).
+-- a branch jumps. That they do is `WaitTakes`, `RampTakes`, `RampVarTakes` and `BranchJumps`, and that an engine's turns on a chip are such
+-- beats is `TurnsAreBeats` (specs/Theorems.antt).
 use Prim.Native.Nat.{ℕ, zero, suc, _+_, _-_, _*_, _≤_, _<_}
-use mathlib.Core.Bool.{true}
+use mathlib.Core.Bool.{Bool, true}
 use mathlib.Core.List.{List}
 use mathlib.Core.Path.{_≡_}
 use lib.ListN.{length, getD}
@@ -9,15 +10,20 @@ use Rattle.word.specs.Profile.{Profile}
 use Rattle.word.specs.Decode.{wordAt}
 use Rattle.word.specs.declared.Step.{Step}
 use Rattle.word.specs.declared.Direction.{Direction}
+use Rattle.word.specs.declared.Flow.{Flow}
+use Rattle.word.specs.declared.Flow.the-variants.{Next, Restart, Stop, Loop, LoopVar, Skip, Fault}
 use Rattle.word.specs.declared.Word.{Word}
 use Rattle.machine.specs.declared.Progress.the-variants.{Waiting, Ramping}
 use Rattle.machine.specs.declared.Engine.{Engine}
+use Rattle.machine.specs.declared.Chip.{Chip}
 use Rattle.machine.specs.declared.Effect.the-variants.{Keep, Move}
 use Rattle.machine.specs.declared.BeatResult.{BeatResult}
-use Rattle.machine.specs.Parts.{withPending}
+use Rattle.machine.specs.Parts.{engineAt, withPending}
 use Rattle.machine.specs.WordEnd.{stepPc, ends, goesOn, lasts}
 use Rattle.machine.specs.Branches.{withCount, branches}
-use Rattle.machine.specs.Turn.{acts, addressOf, returned, beatOf}
+use Rattle.machine.specs.Turn.{acts, addressOf, returned, beatOf, applied, turn}
+use Rattle.machine.specs.Tick.{tick}
+use Rattle.machine.specs.Trace.{chipAtTurn}
 
 -- What an engine meets: C, D and the memory in its beat k, and the triggers that are pending in it after that beat. Beats are counted
 -- from 1.
@@ -40,9 +46,12 @@ afterOwn P s e (suc k) = withPending (s .pending (suc k)) (beatIn P s (suc k) (a
 abbrev pub ownBeat : Profile → Surroundings → Engine → ℕ → BeatResult
 ownBeat P s e k = beatIn P s k (afterOwn P s e (k - 1))
 
--- The word that an engine between words fetches.
+-- The address at which an engine between words fetches, and the word there.
+abbrev pub fetchedAt : Profile → Engine → ℕ
+fetchedAt P e = addressOf (returned P e .start) (returned P e .pc)
+
 abbrev pub fetched : Profile → List ℕ → Engine → Word
-fetched P memory e = wordAt P memory (addressOf (returned P e .start) (returned P e .pc))
+fetched P memory e = wordAt P memory (fetchedAt P e)
 
 -- Engine e as it fetched its word, with the triggers that are pending as its beat k begins.
 abbrev pub asFetched : Profile → Surroundings → Engine → ℕ → Engine
@@ -67,14 +76,53 @@ pub record RampLasts (P : Profile) (s : Surroundings) (e : Engine) (dir : Direct
   pub some : 1 ≤ n → Ramps P s e dir b n
   pub none : n ≡ 0 → Waits P s e b
 
--- Visits of the branch at address a to step t, counted from 0, from one at count 0 on. At visit k the engine is e k, C is c k, and the
--- branch's loops, which a variable may give, are n k. Between visits nothing changes the count.
-pub record Visits (a : ℕ) (t : Step) (c n : ℕ → ℕ) (e : ℕ → Engine) : Type 0 where
+-- What leaves the count of the word at address b alone, of words at address a, by how they go on: all but rst, an end with reset, and a
+-- branch that is that word.
+abbrev pub KeepsCount : ℕ → ℕ → Flow → Type 0
+KeepsCount a b Next = Unit {0}
+KeepsCount a b Restart = ⊥
+KeepsCount a b (Stop z) = z ≡ 1 → ⊥
+KeepsCount a b (Loop c s) = b ≡ a → ⊥
+KeepsCount a b (LoopVar v s) = b ≡ a → ⊥
+KeepsCount a b (Skip o k l r) = Unit {0}
+KeepsCount a b Fault = Unit {0}
+
+-- Visits of the branch at address a to step s, counted from 0, from one at count 0 on. At visit k the engine is e k, variable C is x k, and
+-- the loops that the branch has, or reads from a variable, are c k. Between visits nothing changes the count.
+pub record Visits (a : ℕ) (s : Step) (x c : ℕ → ℕ) (e : ℕ → Engine) : Type 0 where
   pub within : (k : ℕ) → a < length (e k .loops)
   pub begins : getD (e 0 .loops) a 0 ≡ 0
-  pub between : (k : ℕ) → getD (e (suc k) .loops) a 0 ≡ getD (branches (c k) (e k) a (n k) t .own .loops) a 0
+  pub between : (k : ℕ) → getD (e (suc k) .loops) a 0 ≡ getD (branches (x k) (e k) a (c k) s .own .loops) a 0
 
--- "So c>0 gives c jumps": visits 0 to c - 1 jump, where c is what visit 0 reads; visit c goes on, and leaves count 0.
-pub record Jumps (a : ℕ) (t : Step) (c n : ℕ → ℕ) (e : ℕ → Engine) : Type 0 where
-  pub jump : (k : ℕ) → k < n 0 → branches (c k) (e k) a (n k) t ≡ ends (c k) (withCount a (n 0 - k) (e k)) Keep 0 t
-  pub pass : branches (c (n 0)) (e (n 0)) a (n (n 0)) t ≡ goesOn (c (n 0)) (withCount a 0 (e (n 0)))
+-- "So c>0 gives c jumps", where c is what visit 0 reads: visits 0 to c - 1 jump; visit c goes on, and leaves count 0.
+pub record Jumps (a : ℕ) (s : Step) (x c : ℕ → ℕ) (e : ℕ → Engine) : Type 0 where
+  pub jump : (k : ℕ) → k < c 0 → branches (x k) (e k) a (c k) s ≡ ends (x k) (withCount a (c 0 - k) (e k)) Keep 0 s
+  pub pass : branches (x (c 0)) (e (c 0)) a (c (c 0)) s ≡ goesOn (x (c 0)) (withCount a 0 (e (c 0)))
+
+-- On a chip: the chip after k beats, with a pulse in beat j where `pulse j` is true.
+abbrev pub afterPulses : Profile → (ℕ → Bool) → Chip → ℕ → Chip
+afterPulses P pulse m zero = m
+afterPulses P pulse m (suc k) = tick P (pulse (suc k)) (afterPulses P pulse m k) .chip
+
+-- The chip as engine i's turn in beat k begins. There is no beat 0.
+abbrev pub atTurn : Profile → (ℕ → Bool) → Chip → ℕ → ℕ → Chip
+atTurn P pulse m i zero = m
+atTurn P pulse m i (suc k) = chipAtTurn P (pulse (suc k)) (afterPulses P pulse m k) i
+
+-- What engine i meets in these beats, and what it is as its first turn begins.
+abbrev pub metBy : Profile → (ℕ → Bool) → Chip → ℕ → Surroundings
+metBy P pulse m i =
+    record {
+      c = λ k. atTurn P pulse m i k .c;
+      d = λ k. atTurn P pulse m i k .d;
+      memory = λ k. atTurn P pulse m i k .memory;
+      pending = λ k. engineAt P (atTurn P pulse m i (suc k)) i .pending;
+    }
+
+abbrev pub atFirst : Profile → (ℕ → Bool) → Chip → ℕ → Engine
+atFirst P pulse m i = engineAt P (atTurn P pulse m i 1) i
+
+-- Its turn in beat k gives the chip what its own beat k gives.
+pub record TurnIsBeat (P : Profile) (pulse : ℕ → Bool) (m : Chip) (i k : ℕ) : Type 0 where
+  pub acting : acts (engineAt P (atTurn P pulse m i k) i) ≡ true
+  pub gives : turn P i (atTurn P pulse m i k) ≡ applied P i (atTurn P pulse m i k) (ownBeat P (metBy P pulse m i) (atFirst P pulse m i) k)

@@ -1,18 +1,20 @@
 -- What is promised of the chip. The proofs are in proofs/Theorems.antt.
 use Prim.Native.Nat.{ℕ, zero, suc, _+_, _≤_, _<_}
 use mathlib.Core.Bool.{Bool, true, false, cond}
-use mathlib.Core.List.{List, [], _∷_, _++_}
+use mathlib.Core.List.{List, _++_}
 use mathlib.Core.Logic.{_↔_}
 use mathlib.Core.Path.{_≡_}
 use lib.ListN.{getD, replicate}
 use Rattle.word.specs.Profile.{Profile, wordsOf, enginesOf, pagesOf}
+use Rattle.word.specs.Classes.{flowOf}
+use Rattle.word.specs.declared.Step.{Step}
+use Rattle.word.specs.declared.Direction.{Direction}
+use Rattle.word.specs.declared.Word.the-variants.{Ramp, Wait, RampVar}
 use Rattle.plan.specs.declared.Plan.{Plan}
 use Rattle.plan.specs.declared.Verdict.the-variants.{Accept}
 use Rattle.plan.specs.Conditions.{Accepted}
 use Rattle.plan.specs.Check.{checkOf}
-use Rattle.word.specs.declared.Step.{Step}
-use Rattle.word.specs.declared.Direction.{Direction}
-use Rattle.word.specs.declared.Word.the-variants.{Ramp, Wait, RampVar}
+use Rattle.machine.specs.declared.Progress.{Progress}
 use Rattle.machine.specs.declared.Progress.the-variants.{BetweenWords}
 use Rattle.machine.specs.declared.Engine.{Engine}
 use Rattle.machine.specs.declared.Output.{Output}
@@ -26,18 +28,18 @@ use Rattle.machine.specs.Durations.{beatsOf, clampTime}
 use Rattle.machine.specs.Outputs.{holder}
 use Rattle.machine.specs.Variables.{variable}
 use Rattle.machine.specs.Branches.{withCount, branches}
-use Rattle.machine.specs.Turn.{midWord, acts, returned, applied, turn}
-use Rattle.machine.specs.Tick.{stopped, withPulse, tick}
+use Rattle.machine.specs.Turn.{midWord, acts, returned, beatOf, turn}
+use Rattle.machine.specs.Tick.{stopped, tick}
 use Rattle.machine.specs.Outcome.{numberOf}
 use Rattle.machine.specs.Run.{quiet, beginning, mostBeats, runOf}
 use Rattle.machine.specs.Burst.{succeeds, burstOf}
 use Rattle.machine.specs.NewChip.{newChip}
 use Rattle.machine.specs.Loaded.{Loaded}
 use Rattle.machine.specs.Calls.{Call, beat, run, after, afterAll, Allowed}
-use Rattle.machine.specs.Trace.{Seen, Trace, begun, traceTick, traceCall, traceOf}
+use Rattle.machine.specs.Trace.{Trace, begun, traceTick, traceCall, traceOf, chipAtTurn, turnsOfBeat}
 use Rattle.machine.specs.Safe.{Safe, TableSafe}
 use Rattle.machine.specs.Refusals.{BurstCondition, RunCondition}
-use Rattle.machine.specs.OwnBeats.{Surroundings, afterOwn, ownBeat, fetched, Waits, RampLasts, Visits, Jumps}
+use Rattle.machine.specs.OwnBeats.{Surroundings, afterOwn, fetchedAt, fetched, Waits, RampLasts, KeepsCount, Visits, Jumps, metBy, atFirst, TurnIsBeat}
 
 -- 1. What demand 3 promises of a plan and an image: for every chip loaded with them, and every sequence of beats, runs, interrupt reads,
 -- and bursts that write only D and the run settings or are refused: the trace's chip is the one that the calls give, every turn is safe,
@@ -154,19 +156,8 @@ pub record RunOf (P : Profile) (n : ℕ) (m : Chip) : Type 0 where
 abbrev pub RunIsBeats : Type 0
 RunIsBeats = (P : Profile) (n : ℕ) (m : Chip) → n ≤ mostBeats → RunOf P n m
 
--- 6. The turns that a trace records. The chip as engine i's turn in a beat begins: the pulse is pending, and the engines before i have had
--- their turns, each on what the one before it left.
-abbrev pub chipAtTurn : Profile → Bool → Chip → ℕ → Chip
-chipAtTurn P pulse m zero = withPulse pulse m
-chipAtTurn P pulse m (suc i) = turn P i (chipAtTurn P pulse m i) .chip
-
--- The turns of the first n engines in a beat, the newest first.
-abbrev pub turnsOfBeat : Profile → Bool → Chip → ℕ → List Seen
-turnsOfBeat P pulse m zero = []
-turnsOfBeat P pulse m (suc i) = record { engine = i; chip = chipAtTurn P pulse m i } ∷ turnsOfBeat P pulse m i
-
--- A beat records these turns, one of each engine; its chip is the one that the last of them left, and the words that it ended are those
--- that they ended.
+-- 6. The turns that a trace records. A beat records `turnsOfBeat`, one turn of each engine; its chip is the one that the last of them left,
+-- and the words that it ended are those that they ended.
 pub record BeatRecorded (P : Profile) (pulse : Bool) (s : Trace) : Type 0 where
   pub seen : traceTick P pulse s .seen ≡ turnsOfBeat P pulse (s .chip) (enginesOf P) ++ s .seen
   pub chip : tick P pulse (s .chip) .chip ≡ chipAtTurn P pulse (s .chip) (enginesOf P)
@@ -201,44 +192,25 @@ RampVarTakes =
     (P : Profile) (s : Surroundings) (e : Engine) (p : ℕ) (dir : Direction) (l r : ℕ) → e .progress ≡ BetweenWords → fetched P (s .memory 1) e ≡ RampVar p dir l r →
     RampLasts P s e dir (beatsOf p (clampTime (variable (s .c 1) (s .d 1) (returned P e) l))) (variable (s .c 1) (s .d 1) (returned P e) r)
 
--- A branch whose loops are c > 0 at count 0 jumps c times, and then goes on with count 0. With loops 0 it always jumps.
+-- A branch that reads c > 0 at count 0 jumps c times, and then goes on with count 0. With loops 0 it always jumps.
 abbrev pub BranchJumps : Type 0
-BranchJumps = (a : ℕ) (t : Step) (c n : ℕ → ℕ) (e : ℕ → Engine) → Visits a t c n e → 1 ≤ n 0 → Jumps a t c n e
+BranchJumps = (a : ℕ) (s : Step) (x c : ℕ → ℕ) (e : ℕ → Engine) → Visits a s x c e → 1 ≤ c 0 → Jumps a s x c e
 
 abbrev pub BranchEndless : Type 0
 BranchEndless =
-    (a : ℕ) (t : Step) (c n : ℕ → ℕ) (e : ℕ → Engine) → Visits a t c n e → ((k : ℕ) → n k ≡ 0) →
-    (k : ℕ) → branches (c k) (e k) a (n k) t ≡ ends (c k) (withCount a 0 (e k)) Keep 0 t
+    (a : ℕ) (s : Step) (x c : ℕ → ℕ) (e : ℕ → Engine) → Visits a s x c e → ((k : ℕ) → c k ≡ 0) →
+    (k : ℕ) → branches (x k) (e k) a (c k) s ≡ ends (x k) (withCount a 0 (e k)) Keep 0 s
 
--- 8. The own beats of an engine are its turns on a chip. The chip after k beats, with a pulse in beat j if `pulse j`:
-abbrev pub afterPulses : Profile → (ℕ → Bool) → Chip → ℕ → Chip
-afterPulses P pulse m zero = m
-afterPulses P pulse m (suc k) = tick P (pulse (suc k)) (afterPulses P pulse m k) .chip
+-- Between visits no beat of the engine changes the count, but those of an rst and of an end with reset.
+pub record CountsKept (P : Profile) (c d : ℕ) (memory : List ℕ) (e : Engine) : Type 0 where
+  pub atFetch : (b : ℕ) → KeepsCount (fetchedAt P e) b (flowOf (fetched P memory e)) → getD (beatOf P c d memory e BetweenWords .own .loops) b 0 ≡ getD (e .loops) b 0
+  pub inProgress : (p : Progress) → midWord p ≡ true → (b : ℕ) → getD (beatOf P c d memory e p .own .loops) b 0 ≡ getD (e .loops) b 0
 
--- The chip as engine i's turn in beat k begins. There is no beat 0.
-abbrev pub atTurn : Profile → (ℕ → Bool) → Chip → ℕ → ℕ → Chip
-atTurn P pulse m i zero = m
-atTurn P pulse m i (suc k) = chipAtTurn P (pulse (suc k)) (afterPulses P pulse m k) i
+abbrev pub BeatsKeepCounts : Type 0
+BeatsKeepCounts = (P : Profile) (c d : ℕ) (memory : List ℕ) (e : Engine) → CountsKept P c d memory e
 
--- What engine i meets in these beats, and what it is as its first turn begins.
-abbrev pub metBy : Profile → (ℕ → Bool) → Chip → ℕ → Surroundings
-metBy P pulse m i =
-    record {
-      c = λ k. atTurn P pulse m i k .c;
-      d = λ k. atTurn P pulse m i k .d;
-      memory = λ k. atTurn P pulse m i k .memory;
-      pending = λ k. engineAt P (atTurn P pulse m i (suc k)) i .pending;
-    }
-
-abbrev pub atFirst : Profile → (ℕ → Bool) → Chip → ℕ → Engine
-atFirst P pulse m i = engineAt P (atTurn P pulse m i 1) i
-
--- Its turn in beat k gives the chip what its own beat k gives.
-pub record TurnIsBeat (P : Profile) (pulse : ℕ → Bool) (m : Chip) (i k : ℕ) : Type 0 where
-  pub acting : acts (engineAt P (atTurn P pulse m i k) i) ≡ true
-  pub gives : turn P i (atTurn P pulse m i k) ≡ applied P i (atTurn P pulse m i k) (ownBeat P (metBy P pulse m i) (atFirst P pulse m i) k)
-
--- So it is as long as the engine acts. By `acting` of `Waits` and `Ramps` that is so in every beat of a wait or a ramp.
+-- 8. On a chip that isn't stopped an engine's turns are its own beats, as long as it acts. By `acting` of `Waits` and `Ramps` it does in
+-- every beat of a wait or a ramp.
 abbrev pub TurnsAreBeats : Type 0
 TurnsAreBeats =
     (P : Profile) (pulse : ℕ → Bool) (m : Chip) (i k : ℕ) → stopped m ≡ false → i < enginesOf P → 1 ≤ k →
