@@ -1,8 +1,9 @@
 -- The own beats of an engine are its turns on a chip.
-use Prim.Native.Nat.{ℕ, zero, suc, _+_, _-_, _≤_, _<_}
+use Prim.Native.Nat.{ℕ, zero, suc, _+_, _-_, _*_, _≤_, _<_, max}
 use mathlib.Core.Bool.{Bool, true, false, not, false≢true}
 use mathlib.Core.List.{List, [], _∷_}
 use mathlib.Core.Path.{_≡_, refl, sym, ap, subst, _∙_}
+use native.Mathlib.Nat.{one-le-mul}
 use native.Mathlib.Omega.{arith}
 use lib.Dec.{ltb}
 use lib.ListN.{length, getD, set, List·getD-eq-default}
@@ -10,23 +11,28 @@ use lib.Seq.{getD-set-same}
 use borrow.Author.Tests.{ltb-true, ltb-false, not-false}
 use Rattle.laws.proofs.Tests.{by-test, by-cond}
 use Rattle.word.specs.Profile.{Profile, enginesOf}
+use Rattle.word.specs.declared.Direction.{Direction}
+use Rattle.word.specs.declared.Word.{Word}
+use Rattle.word.specs.declared.Word.the-variants.{Ramp, Wait}
 use Rattle.machine.specs.declared.Engine.{Engine}
 use Rattle.machine.specs.declared.Chip.{Chip}
 use Rattle.machine.specs.declared.BeatResult.{BeatResult}
 use Rattle.machine.specs.declared.TurnResult.{TurnResult}
 use Rattle.machine.specs.Parts.{bit, zeroEngine, engineAt, withPending}
+use Rattle.machine.specs.Durations.{beatsOf}
 use Rattle.machine.specs.Triggers.{receives, pulsed}
 use Rattle.machine.specs.Turn.{acts, beatOf, applied, turnIf, turn}
 use Rattle.machine.specs.Tick.{some, isLoad, loads, stopped, withPulse, tick}
 use Rattle.machine.specs.Trace.{begun, chipAtTurn}
-use Rattle.machine.specs.OwnBeats.{Surroundings, beatIn, afterOwn, afterPulses, atTurn, metBy, atFirst, TurnIsBeat}
-use Rattle.machine.specs.Theorems.{TurnsAreBeats}
+use Rattle.machine.specs.OwnBeats.{Surroundings, beatIn, afterOwn, ownBeat, fetched, Waits, RampLasts, afterPulses, atTurn, metBy, atFirst, TurnIsBeat, BeginsWord, endsIn, EndsAfter}
+use Rattle.machine.specs.Theorems.{TurnsAreBeats, WaitEnds, RampEnds}
 use Rattle.machine.proofs.Common.{each-leaves, each-keeps, set-keeps, or-false-left, or-false-right}
 use Rattle.machine.proofs.Frame.{receives-rest, frame}
 use Rattle.machine.proofs.Safety.{turn-acts}
 use Rattle.machine.proofs.Recorded.{beats-recorded}
 use Rattle.machine.proofs.Answers.{some-false}
 use Rattle.machine.proofs.Counts.{beat-leaves}
+use Rattle.machine.proofs.OwnBeats.{beats-some, wait-time, ramp-time, wait-takes, ramp-takes}
 
 abbrev Unloaded : Engine → Type 0
 Unloaded e = isLoad (e .mode) ≡ false
@@ -166,3 +172,60 @@ module _ (P : Profile) (pulse : ℕ → Bool) (m : Chip) (i : ℕ) (g : Going P 
 pub turns-are-beats : TurnsAreBeats
 turns-are-beats P pulse m i zero h w p a = absurd (omega arith)
 turns-are-beats P pulse m i (suc k) h w p a = turn-then P pulse m i (going P m h) w k a
+
+-- No turn changes the memory.
+turn-memory : (P : Profile) (i : ℕ) (m : Chip) → turn P i m .chip .memory ≡ m .memory
+unfolding turn
+turn-memory P i m = go (acts (engineAt P m i))
+  where
+    go : (b : Bool) → turnIf P i m b .chip .memory ≡ m .memory
+    go true = refl
+    go false = refl
+
+turns-memory : (P : Profile) (b : Bool) (m : Chip) (n : ℕ) → chipAtTurn P b m n .memory ≡ m .memory
+turns-memory P b m zero = refl
+turns-memory P b m (suc n) = turn-memory P n (chipAtTurn P b m n) ∙ turns-memory P b m n
+
+-- A word that lasts n of its engine's own beats ends in beat n.
+module _ (P : Profile) (pulse : ℕ → Bool) (m : Chip) (i : ℕ) (w : Word) (B : BeginsWord P pulse m i w) where
+  met-word : fetched P (metBy P pulse m i .memory 1) (atFirst P pulse m i) ≡ w
+  met-word = ap (λ (ws : List ℕ). fetched P ws (atFirst P pulse m i)) (turns-memory P (pulse 1) m i) ∙ B .word
+
+  ends-in : (k : ℕ) → 1 ≤ k → ((j : ℕ) → j < k → acts (afterOwn P (metBy P pulse m i) (atFirst P pulse m i) j) ≡ true) →
+      endsIn P pulse m i k ≡ ownBeat P (metBy P pulse m i) (atFirst P pulse m i) k .ended
+  ends-in zero p a = absurd (omega arith)
+  ends-in (suc k) p a =
+      let n : Chip = afterPulses P pulse m k in
+      let g : Going P m = going P m (B .going) in
+      beats-recorded P (pulse (suc k)) (begun n) (not-stopped P n (beats-going P pulse m i g (B .within) k)) .ended i (B .within)
+      ∙ ap (λ (r : TurnResult). r .ended) (turns-are-beats P pulse m i (suc k) (B .going) (B .within) p a .gives)
+
+  ends-after : (n : ℕ) → 1 ≤ n → ((j : ℕ) → j < n → acts (afterOwn P (metBy P pulse m i) (atFirst P pulse m i) j) ≡ true) →
+      ((k : ℕ) → 1 ≤ k → k < n → ownBeat P (metBy P pulse m i) (atFirst P pulse m i) k .ended ≡ false) →
+      ownBeat P (metBy P pulse m i) (atFirst P pulse m i) n .ended ≡ true → EndsAfter P pulse m i n
+  ends-after n p a f l =
+      record {
+        before = λ k q h. ends-in k q (λ j i. a j (omega arith)) ∙ f k q h;
+        last = ends-in n p a ∙ l;
+      }
+
+  waits-end : (n : ℕ) → 1 ≤ n → Waits P (metBy P pulse m i) (atFirst P pulse m i) n → EndsAfter P pulse m i n
+  waits-end n p W =
+      ends-after n p (W .acting (B .acting)) (λ k q h. ap (λ (r : BeatResult). r .ended) (W .before k q h)) (ap (λ (r : BeatResult). r .ended) (W .last))
+
+  ramp-ends-after : (dir : Direction) (b n : ℕ) → 1 ≤ b → RampLasts P (metBy P pulse m i) (atFirst P pulse m i) dir b n → EndsAfter P pulse m i (max 1 n * b)
+  ramp-ends-after dir b zero p R = let z : max 1 0 * b ≡ b = omega arith in rw z (waits-end b p (R .none refl))
+  ramp-ends-after dir b (suc n) p R =
+      let z : max 1 (suc n) ≡ suc n = omega arith in
+      let q = R .some (omega arith) in
+      rw z (ends-after (suc n * b) (one-le-mul (omega arith) p) (q .acting (B .acting)) (q .lasting) (ap (λ (r : BeatResult). r .ended) (q .last)))
+
+pub wait-ends : WaitEnds
+wait-ends P pulse m i p t B =
+    waits-end P pulse m i (Wait p t) B (beatsOf p t) (beats-some p t (wait-time P _ p t (B .word)))
+    (wait-takes P (metBy P pulse m i) (atFirst P pulse m i) p t (B .between) (met-word P pulse m i (Wait p t) B))
+
+pub ramp-ends : RampEnds
+ramp-ends P pulse m i p t dir n B =
+    ramp-ends-after P pulse m i (Ramp p t dir n) B dir (beatsOf p t) n (beats-some p t (ramp-time P _ p t dir n (B .word)))
+    (ramp-takes P (metBy P pulse m i) (atFirst P pulse m i) p t dir n (B .between) (met-word P pulse m i (Ramp p t dir n) B))

@@ -1,6 +1,6 @@
 -- What a wait and a ramp do in each of their beats.
 use Prim.Native.Nat.{ℕ, zero, suc, _+_, _-_, _*_, _≤_, _<_}
-use mathlib.Core.Bool.{true}
+use mathlib.Core.Bool.{true, false}
 use mathlib.Core.Path.{_≡_, refl, sym, ap, subst, _∙_}
 use native.Mathlib.Nat.{suc-mul}
 use native.Mathlib.Omega.{arith}
@@ -26,7 +26,7 @@ use Rattle.machine.specs.Durations.{beatsOf, clampTime, waits, ramps, ra
 use Rattle.machine.specs.Variables.{variable}
 use Rattle.machine.specs.Words.{begins}
 use Rattle.machine.specs.Turn.{isRun, midWord, acts, addressOf, returned, beatOf}
-use Rattle.machine.specs.OwnBeats.{Surroundings, beatIn, afterOwn, fetched, Waits, Ramps, RampLasts}
+use Rattle.machine.specs.OwnBeats.{Surroundings, beatIn, afterOwn, ownBeat, fetched, Waits, Ramps, RampLasts}
 use Rattle.machine.specs.Theorems.{WaitTakes, RampTakes, RampVarTakes}
 
 -- one beat of a wait and of a ramp, by what is to come
@@ -195,19 +195,37 @@ module _ (P : Profile) (s : Surroundings) (e : Engine) where
   ramp-state dir b n p q w zero h = ramp-begins dir b n p q w
   ramp-state dir b n p q w (suc k) h = ramp-goes dir b n k p h (ramp-state dir b n p q w k (omega arith))
 
-  ramp-acts : (dir : Direction) (b n : ℕ) → 1 ≤ b → acts e ≡ true → ((k : ℕ) → k < n * b → RampsOn dir b n k) → (k : ℕ) → k < n * b → acts (afterOwn P s e k) ≡ true
-  ramp-acts dir b n p a o zero h = a
-  ramp-acts dir b n p a o (suc k) h = let x = o k (omega arith) in go (x .l) (x .r) (x .at) (x .total)
+  -- a beat in which the word lasts
+  record Lasting (k : ℕ) : Type 0 where
+    c : ℕ
+    effect : Effect
+    x : Progress
+    mid : midWord x ≡ true
+    gives : result k ≡ lasts c (before k) effect x
+
+  ramp-lasting : (dir : Direction) (b n k : ℕ) → 1 ≤ b → suc k < n * b → RampsOn dir b n k → Lasting k
+  ramp-lasting dir b n k p h o = go (o .l) (o .r) (o .at) (o .total)
     where
-      go : (l r : ℕ) → RampsAt dir b k l (suc r) → k + (l + r * b) ≡ n * b → acts (afterOwn P s e (suc k)) ≡ true
+      go : (l r : ℕ) → RampsAt dir b k l (suc r) → k + (l + r * b) ≡ n * b → Lasting k
       go l r w t =
           by-test (ltb 1 l)
-          (λ g. acts-next k _ Keep (Ramping dir b (l - 1) (suc r)) refl a (w ∙ ramps-on _ _ dir b l (suc r) (ltb-true 1 l g)))
+          (λ g. record { c = s .c (suc k); effect = Keep; x = Ramping dir b (l - 1) (suc r); mid = refl; gives = w ∙ ramps-on _ _ dir b l (suc r) (ltb-true 1 l g) })
           (λ g. last r w t (ltb-false 1 l g))
         where
-          last : (r : ℕ) → RampsAt dir b k l (suc r) → k + (l + r * b) ≡ n * b → l ≤ 1 → acts (afterOwn P s e (suc k)) ≡ true
+          last : (r : ℕ) → RampsAt dir b k l (suc r) → k + (l + r * b) ≡ n * b → l ≤ 1 → Lasting k
           last zero w t i = absurd (omega arith)
-          last (suc r) w t i = acts-next k _ (Move dir) (Ramping dir b b (suc (suc r) - 1)) refl a (w ∙ ramps-next _ _ dir b l (suc (suc r)) i (omega arith))
+          last (suc r) w t i =
+              record { c = s .c (suc k); effect = Move dir; x = Ramping dir b b (suc (suc r) - 1); mid = refl; gives = w ∙ ramps-next _ _ dir b l (suc (suc r)) i (omega arith) }
+
+  lasting-acts : (n : ℕ) → ((k : ℕ) → suc k < n → Lasting k) → acts e ≡ true → (k : ℕ) → k < n → acts (afterOwn P s e k) ≡ true
+  lasting-acts n o a zero h = a
+  lasting-acts n o a (suc k) h = let x = o k h in acts-next k (x .c) (x .effect) (x .x) (x .mid) a (x .gives)
+
+  lasting-goes : (n : ℕ) → ((k : ℕ) → suc k < n → Lasting k) → (k : ℕ) → 1 ≤ k → k < n → ownBeat P s e k .ended ≡ false
+  lasting-goes n o zero p h = absurd (omega arith)
+  lasting-goes n o (suc k) p h =
+      let z : k ≡ suc k - 1 = omega arith in
+      subst (λ (i : ℕ). beatIn P s (suc k) (afterOwn P s e i) .ended ≡ false) z (ap (λ (r : BeatResult). r .ended) (o k h .gives))
 
   ramps-all : (dir : Direction) (b n : ℕ) → 1 ≤ b → 1 ≤ n → RampsAt dir b 0 b n → Ramps P s e dir b n
   ramps-all dir b n p q w =
@@ -223,9 +241,13 @@ module _ (P : Profile) (s : Surroundings) (e : Engine) where
         last =
             counted (λ (x : ℕ) (f : Engine). ends (s .c x) f (Move dir) 0 (stepPc (returned P e .pc) 1)) (n * b) ((n - 1) * b + (b - 1)) (beats-before n q)
             (part-last dir b n p (n - 1) (parts-at dir b n p w (n - 1) (omega arith)) ∙ ramps-last _ _ dir b 1 (n - (n - 1)) (omega arith) (omega arith));
-        acting = λ a. ramp-acts dir b n p a (ramp-state dir b n p q w);
+        lasting = lasting-goes (n * b) on;
+        acting = lasting-acts (n * b) on;
       }
     where
+      on : (k : ℕ) → suc k < n * b → Lasting k
+      on k h = ramp-lasting dir b n k p h (ramp-state dir b n p q w k (omega arith))
+
       beats-before : (j : ℕ) → 1 ≤ j → j * b ≡ suc ((j - 1) * b + (b - 1))
       beats-before j h =
           let z : j ≡ suc (j - 1) = omega arith in
@@ -253,14 +275,14 @@ module _ (P : Profile) (s : Surroundings) (e : Engine) where
       }
 
 -- a time is at least 1
-beats-some : (p t : ℕ) → 1 ≤ t → 1 ≤ beatsOf p t
+pub beats-some : (p t : ℕ) → 1 ≤ t → 1 ≤ beatsOf p t
 beats-some p t h = by-cond (λ (n : ℕ). 1 ≤ n) (eqb p 1) (λ z. omega arith) (λ z. h)
 
-ramp-time : (P : Profile) (w p t : ℕ) (dir : Direction) (n : ℕ) → decodeOf P w ≡ Ramp p t dir n → 1 ≤ t
+pub ramp-time : (P : Profile) (w p t : ℕ) (dir : Direction) (n : ℕ) → decodeOf P w ≡ Ramp p t dir n → 1 ≤ t
 ramp-time P w p t Up n h = let o = operands-within P w (Ramp p t Up n) h in omega arith
 ramp-time P w p t Down n h = let o = operands-within P w (Ramp p t Down n) h in omega arith
 
-wait-time : (P : Profile) (w p t : ℕ) → decodeOf P w ≡ Wait p t → 1 ≤ t
+pub wait-time : (P : Profile) (w p t : ℕ) → decodeOf P w ≡ Wait p t → 1 ≤ t
 wait-time P w p t h = let o = operands-within P w (Wait p t) h in omega arith
 
 pub wait-takes : WaitTakes

@@ -1,5 +1,5 @@
 -- The theorems of specs/Theorems.antt, each with the file that proves it.
-use Rattle.machine.specs.Theorems.{Demand3, CheckedSafe, Frame, OthersKept, NewChipWithin, StaysWithin, NewChipPc, PcStays, RefusedBurst, RefusedRun, StoppedBeat, BurstAnswers, RunAnswers, RunIsBeats, BeatsRecorded, StoppedRecorded, RunRecorded, WaitTakes, RampTakes, RampVarTakes, BranchJumps, BranchEndless, BeatsKeepCounts, TurnsAreBeats}
+use Rattle.machine.specs.Theorems.{Demand3, CheckedSafe, Frame, OthersKept, NewChipWithin, StaysWithin, NewChipPc, PcStays, RefusedBurst, RefusedRun, StoppedBeat, BurstAnswers, RunAnswers, RunIsBeats, BeatsRecorded, StoppedRecorded, RunRecorded, WaitTakes, RampTakes, RampVarTakes, BranchJumps, BranchEndless, BeatsKeepCounts, TurnsAreBeats, WaitEnds, RampEnds}
 use Rattle.machine.proofs.Safety as safety
 use Rattle.machine.proofs.Frame as framed
 use Rattle.machine.proofs.Limits as limits
@@ -82,3 +82,9 @@ beats-keep-counts = counts.beats-keep-counts
 
 pub turns-are-beats : TurnsAreBeats
 turns-are-beats = chips.turns-are-beats
+
+pub wait-ends : WaitEnds
+wait-ends = chips.wait-ends
+
+pub ramp-ends : RampEnds
+ramp-ends = chips.ramp-ends

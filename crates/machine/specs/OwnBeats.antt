@@ -2,18 +2,18 @@
 -- a branch jumps. That they do is `WaitTakes`, `RampTakes`, `RampVarTakes` and `BranchJumps`, and that an engine's turns on a chip are such
 -- beats is `TurnsAreBeats` (specs/Theorems.antt).
 use Prim.Native.Nat.{ℕ, zero, suc, _+_, _-_, _*_, _≤_, _<_}
-use mathlib.Core.Bool.{Bool, true}
+use mathlib.Core.Bool.{Bool, true, false}
 use mathlib.Core.List.{List}
 use mathlib.Core.Path.{_≡_}
 use lib.ListN.{length, getD}
-use Rattle.word.specs.Profile.{Profile}
+use Rattle.word.specs.Profile.{Profile, enginesOf}
 use Rattle.word.specs.Decode.{wordAt}
 use Rattle.word.specs.declared.Step.{Step}
 use Rattle.word.specs.declared.Direction.{Direction}
 use Rattle.word.specs.declared.Flow.{Flow}
 use Rattle.word.specs.declared.Flow.the-variants.{Next, Restart, Stop, Loop, LoopVar, Skip, Fault}
 use Rattle.word.specs.declared.Word.{Word}
-use Rattle.machine.specs.declared.Progress.the-variants.{Waiting, Ramping}
+use Rattle.machine.specs.declared.Progress.the-variants.{BetweenWords, Waiting, Ramping}
 use Rattle.machine.specs.declared.Engine.{Engine}
 use Rattle.machine.specs.declared.Chip.{Chip}
 use Rattle.machine.specs.declared.Effect.the-variants.{Keep, Move}
@@ -22,7 +22,7 @@ use Rattle.machine.specs.Parts.{engineAt, withPending}
 use Rattle.machine.specs.WordEnd.{stepPc, ends, goesOn, lasts}
 use Rattle.machine.specs.Branches.{withCount, branches}
 use Rattle.machine.specs.Turn.{acts, addressOf, returned, beatOf, applied, turn}
-use Rattle.machine.specs.Tick.{tick}
+use Rattle.machine.specs.Tick.{stopped, tick}
 use Rattle.machine.specs.Trace.{chipAtTurn}
 
 -- What an engine meets: C, D and the memory in its beat k, and the triggers that are pending in it after that beat. Beats are counted
@@ -69,6 +69,7 @@ pub record Ramps (P : Profile) (s : Surroundings) (e : Engine) (dir : Direction)
   pub inPart : (j i : ℕ) → j < n → 1 ≤ i → i < b → ownBeat P s e (j * b + i) ≡ lasts (s .c (j * b + i)) (asFetched P s e (j * b + i)) Keep (Ramping dir b (b - i) (n - j))
   pub partEnd : (j : ℕ) → 1 ≤ j → j < n → ownBeat P s e (j * b) ≡ lasts (s .c (j * b)) (asFetched P s e (j * b)) (Move dir) (Ramping dir b b (n - j))
   pub last : ownBeat P s e (n * b) ≡ ends (s .c (n * b)) (asFetched P s e (n * b)) (Move dir) 0 (stepPc (returned P e .pc) 1)
+  pub lasting : (k : ℕ) → 1 ≤ k → k < n * b → ownBeat P s e k .ended ≡ false
   pub acting : acts e ≡ true → (k : ℕ) → k < n * b → acts (afterOwn P s e k) ≡ true
 
 -- "n=0 lasting as n=1": it moves nothing, as a wait.
@@ -126,3 +127,21 @@ atFirst P pulse m i = engineAt P (atTurn P pulse m i 1) i
 pub record TurnIsBeat (P : Profile) (pulse : ℕ → Bool) (m : Chip) (i k : ℕ) : Type 0 where
   pub acting : acts (engineAt P (atTurn P pulse m i k) i) ≡ true
   pub gives : turn P i (atTurn P pulse m i k) ≡ applied P i (atTurn P pulse m i k) (ownBeat P (metBy P pulse m i) (atFirst P pulse m i) k)
+
+-- Engine i begins a word in beat 1 of a chip that isn't stopped.
+pub record BeginsWord (P : Profile) (pulse : ℕ → Bool) (m : Chip) (i : ℕ) (w : Word) : Type 0 where
+  pub going : stopped m ≡ false
+  pub within : i < enginesOf P
+  pub acting : acts (atFirst P pulse m i) ≡ true
+  pub between : atFirst P pulse m i .progress ≡ BetweenWords
+  pub word : fetched P (m .memory) (atFirst P pulse m i) ≡ w
+
+-- Whether it ends a word in beat k.
+abbrev pub endsIn : Profile → (ℕ → Bool) → Chip → ℕ → ℕ → Bool
+endsIn P pulse m i zero = false
+endsIn P pulse m i (suc k) = getD (tick P (pulse (suc k)) (afterPulses P pulse m k) .ended) i false
+
+-- It ends one in beat n, and none before.
+pub record EndsAfter (P : Profile) (pulse : ℕ → Bool) (m : Chip) (i n : ℕ) : Type 0 where
+  pub before : (k : ℕ) → 1 ≤ k → k < n → endsIn P pulse m i k ≡ false
+  pub last : endsIn P pulse m i n ≡ true

@@ -1,5 +1,5 @@
 -- What is promised of the chip. The proofs are in proofs/Theorems.antt.
-use Prim.Native.Nat.{ℕ, zero, suc, _+_, _≤_, _<_}
+use Prim.Native.Nat.{ℕ, zero, suc, _+_, _*_, _≤_, _<_, max}
 use mathlib.Core.Bool.{Bool, true, false, cond}
 use mathlib.Core.List.{List, _++_}
 use mathlib.Core.Logic.{_↔_}
@@ -39,7 +39,7 @@ use Rattle.machine.specs.Calls.{Call, beat, run, after, afterAll, Allowe
 use Rattle.machine.specs.Trace.{Trace, begun, traceTick, traceCall, traceOf, chipAtTurn, turnsOfBeat}
 use Rattle.machine.specs.Safe.{Safe, TableSafe}
 use Rattle.machine.specs.Refusals.{BurstCondition, RunCondition}
-use Rattle.machine.specs.OwnBeats.{Surroundings, afterOwn, fetchedAt, fetched, Waits, RampLasts, KeepsCount, Visits, Jumps, metBy, atFirst, TurnIsBeat}
+use Rattle.machine.specs.OwnBeats.{Surroundings, afterOwn, fetchedAt, fetched, Waits, RampLasts, KeepsCount, Visits, Jumps, metBy, atFirst, TurnIsBeat, BeginsWord, EndsAfter}
 
 -- 1. What demand 3 promises of a plan and an image: for every chip loaded with them, and every sequence of beats, runs, interrupt reads,
 -- and bursts that write only D and the run settings or are refused: the trace's chip is the one that the calls give, every turn is safe,
@@ -216,3 +216,12 @@ TurnsAreBeats =
     (P : Profile) (pulse : ℕ → Bool) (m : Chip) (i k : ℕ) → stopped m ≡ false → i < enginesOf P → 1 ≤ k →
     ((j : ℕ) → j < k → acts (afterOwn P (metBy P pulse m i) (atFirst P pulse m i) j) ≡ true) →
     TurnIsBeat P pulse m i k
+
+-- So a word that lasts takes its beats on every chip, whatever the pulses and the other engines.
+abbrev pub WaitEnds : Type 0
+WaitEnds = (P : Profile) (pulse : ℕ → Bool) (m : Chip) (i p t : ℕ) → BeginsWord P pulse m i (Wait p t) → EndsAfter P pulse m i (beatsOf p t)
+
+abbrev pub RampEnds : Type 0
+RampEnds =
+    (P : Profile) (pulse : ℕ → Bool) (m : Chip) (i p t : ℕ) (dir : Direction) (n : ℕ) → BeginsWord P pulse m i (Ramp p t dir n) →
+    EndsAfter P pulse m i (max 1 n * beatsOf p t)
