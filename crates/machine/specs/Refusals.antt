@@ -18,7 +18,6 @@ use Rattle.machine.specs.declared.Register.the-variants.{Control, Modes,
 use Rattle.machine.specs.Parts.{bit, engineAt}
 use Rattle.machine.specs.Outputs.{holder}
 use Rattle.machine.specs.Outcome.{numberOf}
-use Rattle.machine.specs.Run.{mostBeats}
 use Rattle.machine.specs.Registers.{registerAt, pairOf, modeOf}
 use Rattle.machine.specs.Stored.{stored}
 
@@ -130,7 +129,7 @@ BurstCondition P a vs m TooManyBeats = ⊥
 
 -- What a run answers. 8: "beats above 1,000,000".
 abbrev pub RunCondition : ℕ → Outcome → Type 0
-RunCondition n Success = n ≤ mostBeats
+RunCondition n Success = n ≤ 1000000
 RunCondition n EmptyBurst = ⊥
 RunCondition n UnlistedAddress = ⊥
 RunCondition n OutsideRegister = ⊥
@@ -138,4 +137,4 @@ RunCondition n LoadRefused = ⊥
 RunCondition n StartInUse = ⊥
 RunCondition n MemoryInUse = ⊥
 RunCondition n OutputHeld = ⊥
-RunCondition n TooManyBeats = mostBeats < n
+RunCondition n TooManyBeats = 1000000 < n
