@@ -5,11 +5,16 @@ pub mod Frame
 pub mod Refusals
 pub mod RowBits
 pub mod Run
+pub mod Answers
+pub mod OwnBeats
+pub mod Counts
 pub mod Closed
 pub mod Kept
 pub mod WordsKept
 pub mod Quiet
 pub mod Safety
+pub mod Recorded
+pub mod OnChip
 pub mod Calls
 pub mod Moves
 pub mod Limits

@@ -17,6 +17,7 @@ use Rattle.plan.specs.declared.Plan.{Plan}
 use Rattle.plan.specs.Ranges.{planAt, firstOf, InCode}
 use Rattle.word.specs.Decode.{wordAt}
 use Rattle.plan.specs.Conditions.{Defined}
+use Rattle.plan.proofs.Theorems.{accepts-exactly}
 use Rattle.machine.specs.declared.Mode.the-variants.{Disabled, Run}
 use Rattle.machine.specs.declared.Progress.{Progress}
 use Rattle.machine.specs.declared.Engine.{Engine}
@@ -35,7 +36,7 @@ use Rattle.machine.specs.Loaded.{UsedEngine, LoadedEngine, Loaded}
 use Rattle.machine.specs.Calls.{Call, beat, run, burst, readInterrupts, after, afterAll, allowed, Allowed, then}
 use Rattle.machine.specs.Trace.{Seen, Trace, begun, withChip, traceTurn, traceTurns, traceTickIf, traceTick, traceTicks, traceCall, traceOf}
 use Rattle.machine.specs.Safe.{wordAddress, endedAt, everEnded, PointsInside, TableSafe, FetchSafe, TurnSafe, Safe, none, more}
-use Rattle.machine.specs.Theorems.{Demand3}
+use Rattle.machine.specs.Theorems.{ProgramSafe, Demand3, CheckedSafe}
 use Rattle.machine.proofs.Common.{both, each-leaves}
 use Rattle.machine.proofs.Closed.{isUsed, hasTable, Closed, accepted-closed}
 use Rattle.machine.proofs.Kept.{EngineCore, core, Under, TableKept, Kept}
@@ -249,7 +250,7 @@ unfolding traceTurns turns traceTurn
 turns-chip P zero i s = refl
 turns-chip P (suc n) i s = turns-chip P n (suc i) (traceTurn P i s)
 
-tick-chip : (P : Profile) (b : Bool) (s : Trace) → traceTick P b s .chip ≡ tick P b (s .chip) .chip
+pub tick-chip : (P : Profile) (b : Bool) (s : Trace) → traceTick P b s .chip ≡ tick P b (s .chip) .chip
 unfolding traceTick tick
 tick-chip P b s = go (stopped (s .chip))
   where
@@ -315,15 +316,15 @@ loaded-kept P p image R A m L =
     }
 
 -- For any sets of addresses that are closed under successors.
-pub sequences-safe : (P : Profile) (p : Plan) (image : List ℕ) (R : ℕ → ℕ → Type 0) → Sound P p image R → (m : Chip) → Loaded P p image m →
-    (ks : List Call) → Allowed P ks m →
-    let s : Trace = traceOf P ks (begun m) in
-    (s .chip ≡ afterAll P ks m) × Safe P p (s .seen) × TableSafe P p (s .seen) (s .chip)
+pub sequences-safe : (P : Profile) (p : Plan) (image : List ℕ) (R : ℕ → ℕ → Type 0) → Sound P p image R → ProgramSafe P p image
 sequences-safe P p image R A m L ks a =
     let I : Invariant P p image R (traceOf P ks (begun m)) = trace-kept P p image R A ks (begun m) a (loaded-kept P p image R A m L) in
     (trace-chip P ks (begun m), I .safe, table-safe P p image R A (traceOf P ks (begun m)) I)
 
--- Demand 3.
+-- Demand 3, of what meets the conditions and of what the checker accepts.
 pub demand-3 : Demand3
 demand-3 P p image A m L ks a =
     sequences-safe P p image (λ i. InCode (planAt P p (suc i))) (record { closed = λ i u. accepted-closed P p image A (suc i) u }) m L ks a
+
+pub checked-safe : CheckedSafe
+checked-safe P p image h = demand-3 P p image (accepts-exactly P p image .0 h)

@@ -21,6 +21,8 @@ pub mod Loaded
 pub mod Calls
 pub mod Trace
 pub mod Safe
+pub mod Refusals
+pub mod OwnBeats
 pub mod Theorems
 pub mod Examples
 pub mod Cases

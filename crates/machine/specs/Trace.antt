@@ -1,5 +1,6 @@
 -- Every turn of a sequence of calls, with the chip as the turn began. A trace goes through beats, runs and calls as specs/Tick.antt,
--- specs/Run.antt and specs/Calls.antt do; that its chip is theirs is a part of demand 3's theorem.
+-- specs/Run.antt and specs/Calls.antt do; that its chip is theirs is a part of demand 3's theorem, and that its turns are theirs is
+-- `BeatsRecorded` and `RunRecorded` (specs/Theorems.antt).
 use Prim.Native.Nat.{ℕ, zero, suc}
 use mathlib.Core.Bool.{Bool, true, false, cond}
 use mathlib.Core.List.{List, [], _∷_}
@@ -55,3 +56,14 @@ traceCall P readInterrupts s = withChip (after P readInterrupts (s .chip)) s
 unfoldable pub traceOf : Profile → List Call → Trace → Trace
 traceOf P [] s = s
 traceOf P (k ∷ ks) s = traceOf P ks (traceCall P k s)
+
+-- The chip as engine i's turn in a beat begins: the pulse is pending, and the engines before i have had their turns, each on what the one
+-- before it left.
+abbrev pub chipAtTurn : Profile → Bool → Chip → ℕ → Chip
+chipAtTurn P pulse m zero = withPulse pulse m
+chipAtTurn P pulse m (suc i) = turn P i (chipAtTurn P pulse m i) .chip
+
+-- The turns of the first n engines in a beat, the newest first. That a beat records these is `BeatsRecorded`.
+abbrev pub turnsOfBeat : Profile → Bool → Chip → ℕ → List Seen
+turnsOfBeat P pulse m zero = []
+turnsOfBeat P pulse m (suc i) = record { engine = i; chip = chipAtTurn P pulse m i } ∷ turnsOfBeat P pulse m i
