@@ -1,5 +1,6 @@
 pub mod Laws
 pub mod Passes
+pub mod Reports
 pub mod First
 pub mod Tests
 pub mod Lists

@@ -11,7 +11,12 @@ use Rattle.plan.specs.declared.Verdict.the-variants.{Accept, WrongLength
 use Rattle.plan.specs.Ranges.{planAt, firstOf, InCode, InTable}
 use Rattle.plan.specs.Conditions.{Accepted, Condition}
 use Rattle.plan.specs.Tests.{holds}
+use Rattle.plan.specs.Verdict.{reportOf}
 use Rattle.plan.specs.Check.{verdictsOf, checkOf}
+
+-- No two verdicts have the same report: number, engine and address say all that a verdict says.
+abbrev pub ReportsDistinct : Type 0
+ReportsDistinct = (v w : Verdict) → reportOf v ≡ reportOf w → v ≡ w
 
 -- A test is true exactly where its condition holds.
 abbrev pub TestsExactly : Type 0
