@@ -4,5 +4,7 @@ pub mod Reports
 pub mod First
 pub mod Tests
 pub mod Lists
+pub mod Order
 pub mod Theorems
+pub mod Exactly
 pub mod Examples

@@ -1,6 +1,7 @@
--- No two verdicts have the same report.
+-- No two verdicts have the same report, and only Accept has the number 0.
 use mathlib.Core.Bool.{cond}
 use mathlib.Core.Path.{_≡_, refl, sym, ap, _∙_}
+use native.Mathlib.Omega.{arith}
 use lib.Dec.{eqb}
 use Rattle.word.specs.Profile.{LP5523}
 use Rattle.word.specs.Steps.{addressAt}
@@ -42,3 +43,15 @@ reports-distinct v w e = sym (verdict-again v) ∙ ap verdictIn e ∙ verdict-ag
 -- what `check_ranges` answers, as its callers ask it
 pub ranges-answer : (v : Verdict) (p : Plan) → reportOf v ≡ reportOf (checkRangesOf LP5523 p) → v ≡ checkRangesOf LP5523 p
 ranges-answer v p e = reports-distinct v (checkRangesOf LP5523 p) e
+
+-- 0 stands for success alone
+pub zero-number : (v : Verdict) → reportOf v .number ≡ 0 → v ≡ Accept
+zero-number Accept e = refl
+zero-number WrongLength e = absurd (omega arith)
+zero-number (InvalidRange i) e = absurd (omega arith)
+zero-number (CodeOverlapsTable i) e = absurd (omega arith)
+zero-number (UndefinedWord i a) e = absurd (omega arith)
+zero-number (SuccessorOutside i a) e = absurd (omega arith)
+zero-number (TableMisused i a) e = absurd (omega arith)
+zero-number (TableNotOpened i a) e = absurd (omega arith)
+zero-number (ReservedRowBit i a) e = absurd (omega arith)
