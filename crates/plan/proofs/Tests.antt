@@ -63,7 +63,7 @@ same : (m n : ℕ) → Exactly (eqb m n) (m ≡ n)
 same m n = (eqb-true m n, eq-eqb m n)
 
 pub range-test : RangeTest
-range-test f l a = both (leb (f .0) a) (leb a (l .0)) (at-most (f .0) a) (at-most a (l .0))
+range-test f l a = restated (both (leb (f .0) a) (leb a (l .0)) (at-most (f .0) a) (at-most a (l .0))) (λ h. omega arith) (λ h. omega arith)
 
 pub code-test : CodeTest
 code-test Unused a = never (λ h. h)
