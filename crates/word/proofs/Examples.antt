@@ -2,7 +2,10 @@
 use mathlib.Core.Path.{refl}
 use Rattle.word.specs.Field.{inside}
 use Rattle.word.specs.Decode.{reading, decodeOf}
-use Rattle.word.specs.Examples.{SamplesHold, OutsideRefused, MapForms, LimitsHold}
+use Rattle.word.specs.Examples.{AnswersNumbered, SamplesHold, OutsideRefused, MapForms, LimitsHold}
+
+pub answers-numbered : AnswersNumbered
+answers-numbered = (λ w. refl, refl, refl)
 
 pub samples-hold : SamplesHold
 unfolding inside reading decodeOf

@@ -151,10 +151,17 @@ undefinedCodes =
     0x0001 ∷ 0x01FF ∷ 0x4100 ∷ 0x8000 ∷ 0x8440 ∷ 0x8464 ∷ 0x9320 ∷ 0x9C60 ∷ 0x9D0A ∷ 0x9D0F ∷ 0x9D11 ∷ 0x9D82 ∷ 0x9DC2 ∷ 0x9E60 ∷ 0x9EFF ∷
     0xC001 ∷ 0xC401 ∷ 0xC600 ∷ 0xE001 ∷ 0xE010 ∷ 0xE400 ∷ 0xF3D0 ∷ 0xFFFF ∷ 0x10000 ∷ []
 
+abbrev pub answer : ℕ → ℕ → Answer
+answer n w = record { number = n; code = w }
+
+-- The encoder's answers as numbers.
+abbrev pub AnswersNumbered : Type 0
+AnswersNumbered = ((w : ℕ) → answerOf (Code w) ≡ answer 0 w) × (answerOf OutsideField ≡ answer 22 0) × (answerOf UndefinedWord ≡ answer 13 0)
+
 -- Each sample has its code and is decoded from it, and has its flow and its use of the table.
 abbrev pub SamplesHold : Type 0
 SamplesHold =
-    (map (λ (s : Sample). encodeOf LP5523 (s .word)) samples ≡ map (λ (s : Sample). answerOf (Code (s .code))) samples) ×
+    (map (λ (s : Sample). encodeOf LP5523 (s .word)) samples ≡ map (λ (s : Sample). answer 0 (s .code)) samples) ×
     (map (λ (s : Sample). decodeOf LP5523 (s .code)) samples ≡ map (λ (s : Sample). s .word) samples) ×
     (map (λ (s : Sample). flowOf (s .word)) samples ≡ map (λ (s : Sample). s .flow) samples) ×
     (map (λ (s : Sample). tableUseOf (s .word)) samples ≡ map (λ (s : Sample). s .tableUse) samples)
@@ -162,8 +169,8 @@ SamplesHold =
 -- Every word of `outside` is refused with 22, and Undefined with 13; every code of `undefinedCodes` is undefined.
 abbrev pub OutsideRefused : Type 0
 OutsideRefused =
-    (map (encodeOf LP5523) outside ≡ map (λ (i : Word). answerOf OutsideField) outside) ×
-    (encodeOf LP5523 Undefined ≡ answerOf UndefinedWord) ×
+    (map (encodeOf LP5523) outside ≡ map (λ (i : Word). answer 22 0) outside) ×
+    (encodeOf LP5523 Undefined ≡ answer 13 0) ×
     (map (decodeOf LP5523) undefinedCodes ≡ map (λ (w : ℕ). Undefined) undefinedCodes) ×
     (flowOf Undefined ≡ Fault) × (tableUseOf Undefined ≡ Nothing)
 
