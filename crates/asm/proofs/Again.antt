@@ -12,7 +12,7 @@ use Rattle.plan.specs.declared.Verdict.the-variants.{Accept}
 use Rattle.plan.specs.Conditions.{Defined}
 use Rattle.plan.specs.Verdict.{reportOf}
 use Rattle.plan.specs.Check.{checkRangesOf}
-use Rattle.plan.proofs.Examples.{zero-accepts}
+use Rattle.plan.proofs.Reports.{zero-number}
 use Rattle.grammar.specs.declared.LineKind.{LineKind}
 use Rattle.grammar.specs.declared.LineKind.the-variants as kind
 use Rattle.grammar.specs.Grammar.{readLine}
@@ -63,7 +63,7 @@ module _ (line-again : LineAgain) (reads-defined : ReadsDefined) (P : Profile) w
           all = r .2 ∙ sym (append-nil ws);
           count = refl;
           text = refl;
-          ranges = zero-accepts (checkRangesOf P p) (r .0);
+          ranges = zero-number (checkRangesOf P p) (r .0);
           codes = tt;
         }
     words-read zero a l ws ([] ∷ s ∷ ps) e = absurd (never e)

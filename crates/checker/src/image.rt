@@ -18,6 +18,7 @@ ghost use mathlib.Core.Path.{_≡_};
 ghost use lib.ListN.{length};
 ghost use Rattle.word.specs.Profile.{LP5523};
 ghost use Rattle.plan.specs.Tests.{validRanges};
+ghost use Rattle.plan.specs.Verdict.{reportOf};
 ghost use Rattle.plan.specs.Check.{checkOf};
 ghost use Rattle.plan.specs.internal.Passes.{engineVerdict, enginesVerdict};
 
@@ -52,7 +53,7 @@ fn check_engines(plan: Plan, image: &[u16]) -> Verdict
 
 // The first condition that the plan and its image don't meet, or Accept.
 pub fn check(plan: Plan, image: &[u16]) -> Verdict
-    ensures { λ r. ⌜ r ≡ checkOf LP5523 plan (now (image .entry)) ⌝ }
+    ensures { λ r. ⌜ reportOf r ≡ reportOf (checkOf LP5523 plan (now (image .entry))) ⌝ }
 {
     if image.len() != WORDS {
         return Verdict::WrongLength;

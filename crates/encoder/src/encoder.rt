@@ -9,7 +9,9 @@ use word::MuxMoveOp;
 use word::Word;
 ghost use mathlib.Core.Path.{_≡_};
 ghost use mathlib.Core.List.{[], _∷_};
-ghost use Prim.Native.Nat.{_+_, _*_, _<_};
+ghost use denote.Enum.Declared.{tagOf};
+ghost use Prim.Native.Nat.{_+_, _*_, _≤_, _<_};
+ghost use Rattle.word.proofs.Word.{the-type};
 ghost use Rattle.word.specs.Profile.{LP5523};
 ghost use Rattle.word.specs.Field.{Field, rangesOf, upto, inside};
 ghost use Rattle.word.specs.Answer.{answerOf};
@@ -202,6 +204,24 @@ fn mux_move_code(op: MuxMoveOp) -> u16
     }
 }
 
+// Words of the mapping table, and those after them in `Word`, counted from 0.
+fn encode_later(word: Word) -> Coded
+    requires { ⌜ 10 ≤ tagOf the-type word ⌝ }
+    ensures { λ r. ⌜ answerOf r ≡ encodeOf LP5523 word ⌝ }
+{
+    match word {
+        Word::MuxAt { op, address } => one(mux_at_base(op), address.0, 95),
+        Word::MuxClr => Coded::Code(0x9D00),
+        Word::MuxSel { output } => mux_sel(output),
+        Word::MuxMove { op } => Coded::Code(mux_move_code(op)),
+        Word::Branch { loops, step } => two(0xA000, 128, loops, 63, step.0, 127),
+        Word::End { int, reset } => scaled(0xC000, 4096, int, 1, 2048, reset, 1),
+        Word::Int => Coded::Code(0xC400),
+        Word::Trigger { wait, send } => trigger(wait, send),
+        _ => Coded::UndefinedWord,
+    }
+}
+
 // The 16 bits of a word, or its refusal.
 pub fn encode(word: Word) -> Coded
     ensures { λ r. ⌜ answerOf r ≡ encodeOf LP5523 word ⌝ }
@@ -237,14 +257,6 @@ pub fn encode(word: Word) -> Coded
             left,
             right,
         } => three(arith_var_base(op), 1024, to, 2, 4, left, 3, right, 3),
-        Word::MuxAt { op, address } => one(mux_at_base(op), address.0, 95),
-        Word::MuxClr => Coded::Code(0x9D00),
-        Word::MuxSel { output } => mux_sel(output),
-        Word::MuxMove { op } => Coded::Code(mux_move_code(op)),
-        Word::Branch { loops, step } => two(0xA000, 128, loops, 63, step.0, 127),
-        Word::End { int, reset } => scaled(0xC000, 4096, int, 1, 2048, reset, 1),
-        Word::Int => Coded::Code(0xC400),
-        Word::Trigger { wait, send } => trigger(wait, send),
-        Word::Undefined => Coded::UndefinedWord,
+        _ => encode_later(word),
     }
 }

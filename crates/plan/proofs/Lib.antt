@@ -1,7 +1,10 @@
 pub mod Laws
 pub mod Passes
+pub mod Reports
 pub mod First
 pub mod Tests
 pub mod Lists
+pub mod Order
 pub mod Theorems
+pub mod Exactly
 pub mod Examples

@@ -22,7 +22,7 @@ use Rattle.plan.specs.Ranges.{enginePlans, planAt, InRange, InCode, InTa
 use Rattle.word.specs.Decode.{wordAt}
 use Rattle.plan.specs.Conditions.{ValidRange, ValidRanges, Disjoint, Defined, successorsOf, AllIn, SuccessorsInside, UseInside, NoUse, UsesOwnTable, isStart, isEnd, OpensTable, reservedBits}
 use Rattle.plan.specs.Tests.{validRange, validRanges, overlap, codeOverlaps, overlaps, overlapsAny, inRange, inCode, allIn, successorsInside, useInside, noUse, usesOwnTable, opensTable}
-use Rattle.plan.specs.Theorems.{TestsExactly}
+use Rattle.plan.specs.Theorems.{RangeTest, CodeTest, SuccessorsTest, TestsExactly}
 
 abbrev pub Exactly : Bool → Type 0 → Type 0
 Exactly b A = (b ≡ true) ↔ A
@@ -62,13 +62,13 @@ below m n = (ltb-true m n, lt-ltb m n)
 same : (m n : ℕ) → Exactly (eqb m n) (m ≡ n)
 same m n = (eqb-true m n, eq-eqb m n)
 
-in-range : (f l : Address) (a : ℕ) → Exactly (inRange f l a) (InRange f l a)
-in-range f l a = both (leb (f .0) a) (leb a (l .0)) (at-most (f .0) a) (at-most a (l .0))
+pub range-test : RangeTest
+range-test f l a = restated (both (leb (f .0) a) (leb a (l .0)) (at-most (f .0) a) (at-most a (l .0))) (λ h. omega arith) (λ h. omega arith)
 
-in-code : (q : EnginePlan) (a : ℕ) → Exactly (inCode q a) (InCode q a)
-in-code Unused a = never (λ h. h)
-in-code (CodeOnly f l) a = in-range f l a
-in-code (CodeAndTable f l t b) a = in-range f l a
+pub code-test : CodeTest
+code-test Unused a = never (λ h. h)
+code-test (CodeOnly f l) a = range-test f l a
+code-test (CodeAndTable f l t b) a = range-test f l a
 
 -- 11
 range-exactly : (P : Profile) (a b : Address) → Exactly (validRange P a b) (ValidRange P a b)
@@ -143,9 +143,9 @@ all-in : (f : ℕ → Bool) (R : ℕ → Type 0) → ((a : ℕ) → Exactly (f a
 all-in f R t [] = always tt
 all-in f R t (x ∷ xs) = both (f x) (allIn f xs) (t x) (all-in f R t xs)
 
-successors : (q : EnginePlan) (a : ℕ) (w : Word) → Exactly (successorsInside q a (flowOf w)) (SuccessorsInside q a w)
+pub successors-test : SuccessorsTest
 unfolding successorsInside
-successors q a w = all-in (inCode q) (InCode q) (in-code q) (successorsOf (firstOf q) a (flowOf w))
+successors-test q a w = all-in (inCode q) (InCode q) (code-test q) (successorsOf (firstOf q) a (flowOf w))
 
 -- 15
 no-use : (u : TableUse) → Exactly (noUse u) (NoUse u)
@@ -160,7 +160,7 @@ use-inside : (t b : Address) (u : TableUse) → Exactly (useInside t b u) (UseIn
 use-inside t b Nothing = always tt
 use-inside t b (StartAt a) = same (a .0) (t .0)
 use-inside t b (EndAt a) = same (a .0) (b .0)
-use-inside t b (RowAt a) = in-range t b (a .0)
+use-inside t b (RowAt a) = range-test t b (a .0)
 use-inside t b Forward = always tt
 use-inside t b Backward = always tt
 
@@ -183,7 +183,7 @@ tests-exactly P p image WrongLength = same (length image) (wordsOf P)
 tests-exactly P p image (InvalidRange i) = valid-ranges P (planAt P p i)
 tests-exactly P p image (CodeOverlapsTable i) = disjoint-from-all (planAt P p i) (enginePlans P p)
 tests-exactly P p image (UndefinedWord i a) = defined (wordAt P image (a .0))
-tests-exactly P p image (SuccessorOutside i a) = successors (planAt P p i) (a .0) (wordAt P image (a .0))
+tests-exactly P p image (SuccessorOutside i a) = successors-test (planAt P p i) (a .0) (wordAt P image (a .0))
 tests-exactly P p image (TableMisused i a) = uses-own-table (planAt P p i) (tableUseOf (wordAt P image (a .0)))
 tests-exactly P p image (TableNotOpened i a) = opens-table P image (planAt P p i)
 tests-exactly P p image (ReservedRowBit i a) = same (reservedBits P (getD image (a .0) 0)) 0

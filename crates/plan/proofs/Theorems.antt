@@ -1,83 +1,94 @@
 -- The theorems of specs/Theorems.antt on the checker, under its names; tests-exactly is in proofs/Tests.antt.
 use Prim.Native.Nat.{ℕ}
-use mathlib.Core.Bool.{true, true≢false}
+use mathlib.Core.Bool.{true}
 use mathlib.Core.List.{List, [], _∷_, map, _++_}
 use mathlib.Core.Logic.{_↔_, Iff·trans}
-use mathlib.Core.Path.{_≡_, refl, sym, subst, _∙_}
-use lib.ListN.{getD}
+use mathlib.Core.Path.{_≡_, refl, sym, ap, subst}
 use Rattle.word.specs.Profile.{Profile}
-use Rattle.word.specs.Classes.{tableUseOf}
 use Rattle.word.specs.Steps.{addressAt}
 use Rattle.plan.specs.declared.EnginePlan.{EnginePlan}
 use Rattle.plan.specs.declared.EnginePlan.the-variants.{Unused}
 use Rattle.plan.specs.declared.Plan.{Plan}
 use Rattle.plan.specs.declared.Verdict.{Verdict}
 use Rattle.plan.specs.declared.Verdict.the-variants.{InvalidRange, CodeOverlapsTable, TableNotOpened}
-use Rattle.plan.specs.Ranges.{planAt, InCode, InTable, firstOf, codeAddresses, tableAddresses}
-use Rattle.word.specs.Decode.{wordAt}
-use Rattle.plan.specs.Conditions.{ValidRanges, CodeDisjoint, Defined, AllIn, SuccessorsInside, UsesOwnTable, OpensTable, RowClear, Accepted, Condition}
+use Rattle.plan.specs.Ranges.{planAt, firstOf, codeAddresses, tableAddresses}
+use Rattle.plan.specs.Conditions.{ValidRanges, CodeDisjoint, AllIn, Accepted, Condition}
 use Rattle.plan.specs.Tests.{holds}
 use Rattle.plan.specs.Check.{engineNumbers, joined, ofWord, ofRow, ofEngine, verdictsOf, checkOf}
-use Rattle.plan.specs.Theorems.{AcceptsExactly, AllOf, Located, RefusesFirst}
-use Rattle.plan.proofs.First.{allHold, first-none, first-all, first-splits}
+use Rattle.plan.specs.Verdict.{reportOf}
+use Rattle.plan.specs.Reports.{AllValid, AllDisjoint, WordsMet, EngineMet}
+use Rattle.plan.specs.Theorems.{AcceptsExactly, AllOf, Located, RefusesFirst, ZeroAccepts}
+use Rattle.plan.proofs.First.{First, allHold, first-none, first-all, first-exactly, splits, placed}
+use Rattle.plan.proofs.Reports.{zero-number}
 use Rattle.plan.proofs.Tests.{both, tests-exactly}
 use Rattle.plan.proofs.Lists.{all-map, all-given, engine-all, met-append, met-map, met-joined, over-code, over-table}
 
--- What 13 to 17 ask of an engine.
-record Good (P : Profile) (image : List ℕ) (q : EnginePlan) : Type 0 where
-  words : (a : ℕ) → InCode q a → Defined (wordAt P image a) × SuccessorsInside q a (wordAt P image a) × UsesOwnTable q (tableUseOf (wordAt P image a))
-  opens : OpensTable P image q
-  rows : (a : ℕ) → InTable q a → RowClear P (getD image a 0)
+pub unused-met : (P : Profile) (image : List ℕ) → EngineMet P image Unused
+unused-met P image = (λ a c. absurd c, tt, λ a c. absurd c)
 
 module _ (P : Profile) (p : Plan) (image : List ℕ) where
-  all-met : (vs : List Verdict) → (allHold (holds P p image) vs ≡ true) ↔ AllOf (Condition P p image) vs
+  pub all-met : (vs : List Verdict) → (allHold (holds P p image) vs ≡ true) ↔ AllOf (Condition P p image) vs
   all-met [] = (λ e. tt, λ h. refl)
   all-met (v ∷ vs) = both (holds P p image v) (allHold (holds P p image) vs) (tests-exactly P p image v) (all-met vs)
 
   -- one engine's part of the order: its words, then its first two words and its rows
-  abbrev wordsPart : ℕ → List Verdict
+  abbrev pub wordsPart : ℕ → List Verdict
   wordsPart i = joined (ofWord i) (codeAddresses (planAt P p i))
 
-  abbrev rowsPart : ℕ → List Verdict
+  abbrev pub rowsPart : ℕ → List Verdict
   rowsPart i = TableNotOpened i (addressAt (firstOf (planAt P p i))) ∷ joined (ofRow i) (tableAddresses (planAt P p i))
 
-  engine-met : (i : ℕ) → AllOf (Condition P p image) (ofEngine (planAt P p i) i) ↔ Good P image (planAt P p i)
+  pub words-met : (i : ℕ) → AllOf (Condition P p image) (wordsPart i) ↔ WordsMet P image (planAt P p i)
+  words-met i = (
+    λ h a c. let w = over-code (Condition P p image) (ofWord i) (planAt P p i) .0 h a c in (w .0, w .1 .0, w .1 .1 .0),
+    λ g. over-code (Condition P p image) (ofWord i) (planAt P p i) .1 (λ a c. let w = g a c in (w .0, (w .1, (w .2, tt)))),
+  )
+
+  pub engine-met : (i : ℕ) → AllOf (Condition P p image) (ofEngine (planAt P p i) i) ↔ EngineMet P image (planAt P p i)
   engine-met i = (
     λ h.
         let s = met-append (Condition P p image) (wordsPart i) (rowsPart i) .0 h in
-        record {
-          words = λ a c. let w = over-code (Condition P p image) (ofWord i) (planAt P p i) .0 (s .0) a c in (w .0, w .1 .0, w .1 .1 .0);
-          opens = s .1 .0;
-          rows = λ a t. over-table (Condition P p image) (ofRow i) (planAt P p i) .0 (s .1 .1) a t .0;
-        },
+        (words-met i .0 (s .0), s .1 .0, λ a t. over-table (Condition P p image) (ofRow i) (planAt P p i) .0 (s .1 .1) a t .0),
     λ g.
         met-append (Condition P p image) (wordsPart i) (rowsPart i) .1 (
-          over-code (Condition P p image) (ofWord i) (planAt P p i) .1 (λ a c. let w = g .words a c in (w .0, (w .1, (w .2, tt)))),
-          (g .opens, over-table (Condition P p image) (ofRow i) (planAt P p i) .1 (λ a t. (g .rows a t, tt))),
+          words-met i .1 (g .0),
+          (g .1, over-table (Condition P p image) (ofRow i) (planAt P p i) .1 (λ a t. (g .2 a t, tt))),
         ),
   )
 
   -- the order after WrongLength: 11, 12, then the engines
-  abbrev orders : List Verdict
+  abbrev pub orders : List Verdict
   orders = map InvalidRange (engineNumbers P)
 
-  abbrev meetings : List Verdict
+  abbrev pub meetings : List Verdict
   meetings = map CodeOverlapsTable (engineNumbers P)
 
-  abbrev engines : List Verdict
+  abbrev pub engines : List Verdict
   engines = joined (λ i. ofEngine (planAt P p i) i) (engineNumbers P)
 
-  engines-met : AllOf (Condition P p image) engines ↔ ((i : ℕ) → Good P image (planAt P p i))
+  pub valid-met : AllOf (Condition P p image) orders ↔ AllValid P p
+  valid-met = (
+    λ h. engine-all (ValidRanges P) tt P p (met-map (Condition P p image) InvalidRange (engineNumbers P) .0 h),
+    λ h. met-map (Condition P p image) InvalidRange (engineNumbers P) .1 (all-given h (engineNumbers P)),
+  )
+
+  pub disjoint-met : AllOf (Condition P p image) meetings ↔ AllDisjoint P p
+  disjoint-met = (
+    λ h. engine-all (CodeDisjoint P p) (λ i a c. absurd c) P p (met-map (Condition P p image) CodeOverlapsTable (engineNumbers P) .0 h),
+    λ h. met-map (Condition P p image) CodeOverlapsTable (engineNumbers P) .1 (all-given h (engineNumbers P)),
+  )
+
+  pub ranges-met : AllValid P p → AllDisjoint P p → AllOf (Condition P p image) (orders ++ meetings)
+  ranges-met o m = met-append (Condition P p image) orders meetings .1 (valid-met .1 o, disjoint-met .1 m)
+
+  engines-met : AllOf (Condition P p image) engines ↔ ((i : ℕ) → EngineMet P image (planAt P p i))
   engines-met = (
-    λ h. engine-all (Good P image) unused P p (all-map (λ i. engine-met i .0) (engineNumbers P) (each .0 h)),
+    λ h. engine-all (EngineMet P image) (unused-met P image) P p (all-map (λ i. engine-met i .0) (engineNumbers P) (each .0 h)),
     λ g. each .1 (all-given (λ i. engine-met i .1 (g i)) (engineNumbers P)),
   )
     where
       each : AllOf (Condition P p image) engines ↔ AllIn (λ i. AllOf (Condition P p image) (ofEngine (planAt P p i) i)) (engineNumbers P)
       each = met-joined (Condition P p image) (λ i. ofEngine (planAt P p i) i) (engineNumbers P)
-
-      unused : Good P image Unused
-      unused = record { words = λ a c. absurd c; opens = tt; rows = λ a c. absurd c }
 
   accepted : AllOf (Condition P p image) (verdictsOf P p) → Accepted P p image
   accepted h =
@@ -86,25 +97,19 @@ module _ (P : Profile) (p : Plan) (image : List ℕ) where
       let good = engines-met .0 (s .1) in
       record {
         complete = h .0;
-        validRanges = engine-all (ValidRanges P) tt P p (met-map (Condition P p image) InvalidRange (engineNumbers P) .0 (t .0));
-        disjoint = engine-all (CodeDisjoint P p) (λ i a c. absurd c) P p (met-map (Condition P p image) CodeOverlapsTable (engineNumbers P) .0 (t .1));
-        defined = λ i a c. good i .words a c .0;
-        successors = λ i a c. good i .words a c .1;
-        tableUse = λ i a c. good i .words a c .2;
-        opensTable = λ i. good i .opens;
-        rowsClear = λ i. good i .rows;
+        validRanges = valid-met .0 (t .0);
+        disjoint = disjoint-met .0 (t .1);
+        defined = λ i a c. good i .0 a c .0;
+        successors = λ i a c. good i .0 a c .1;
+        tableUse = λ i a c. good i .0 a c .2;
+        opensTable = λ i. good i .1;
+        rowsClear = λ i. good i .2;
       }
 
   met : Accepted P p image → AllOf (Condition P p image) (verdictsOf P p)
   met A =
-      let o = met-map (Condition P p image) InvalidRange (engineNumbers P) .1 (all-given (A .validRanges) (engineNumbers P)) in
-      let m = met-map (Condition P p image) CodeOverlapsTable (engineNumbers P) .1 (all-given (A .disjoint) (engineNumbers P)) in
-      let e = engines-met .1 (λ i. record {
-        words = λ a c. (A .defined i a c, A .successors i a c, A .tableUse i a c);
-        opens = A .opensTable i;
-        rows = A .rowsClear i;
-      }) in
-      (A .complete, met-append (Condition P p image) (orders ++ meetings) engines .1 (met-append (Condition P p image) orders meetings .1 (o, m), e))
+      let e = engines-met .1 (λ i. (λ a c. (A .defined i a c, A .successors i a c, A .tableUse i a c), A .opensTable i, A .rowsClear i)) in
+      (A .complete, met-append (Condition P p image) (orders ++ meetings) engines .1 (ranges-met (A .validRanges) (A .disjoint), e))
 
   -- each verdict of the order has an address of its engine
   engine-located : (i : ℕ) → AllOf (Located P p) (ofEngine (planAt P p i) i)
@@ -131,13 +136,21 @@ accepts-exactly P p image =
 -- 2
 pub refuses-first : RefusesFirst
 unfolding checkOf
-refuses-first P p image v e n =
-    let s = first-splits (holds P p image) (verdictsOf P p) v e n in
-    record {
-      before = s .before;
-      after = s .after;
-      place = s .place;
-      earlier = all-met P p image (s .before) .0 (s .earlier);
-      address = met-append (Located P p) (s .before) (v ∷ s .after) .0 (subst (AllOf (Located P p)) (s .place) (all-located P p image)) .1 .0;
-      fails = λ c. true≢false (sym (tests-exactly P p image v .1 c) ∙ s .fails);
-    }
+refuses-first P p image v n =
+    Iff·trans (first-exactly (holds P p image) (Condition P p image) (tests-exactly P p image) v n (verdictsOf P p)) (
+      λ h.
+          let s = splits (Condition P p image) v (verdictsOf P p) h in
+          record {
+            before = s .before;
+            after = s .after;
+            place = s .place;
+            earlier = s .earlier;
+            address = met-append (Located P p) (s .before) (v ∷ s .after) .0 (subst (AllOf (Located P p)) (s .place) (all-located P p image)) .1 .0;
+            fails = s .fails;
+          },
+      λ r. subst (First (Condition P p image) v) (sym (r .place)) (placed (Condition P p image) v (r .before) (r .after) (r .earlier) (r .fails)),
+    )
+
+-- 3
+pub zero-accepts : ZeroAccepts
+zero-accepts P p image = Iff·trans (zero-number (checkOf P p image), λ e. ap (λ (v : Verdict). reportOf v .number) e) (accepts-exactly P p image)

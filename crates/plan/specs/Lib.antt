@@ -4,6 +4,7 @@ pub mod Conditions
 pub mod Tests
 pub mod Strays
 pub mod Check
+pub mod Reports
 pub mod internal
 pub mod Theorems
 pub mod Examples

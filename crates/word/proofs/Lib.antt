@@ -3,3 +3,4 @@ pub mod Bases
 pub mod Candidates
 pub mod Theorems
 pub mod Later
+pub mod Examples

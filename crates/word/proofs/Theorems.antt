@@ -21,8 +21,9 @@ use Rattle.word.specs.Field.{inside}
 use Rattle.word.specs.Answer.{Answer, success, refusal}
 use Rattle.word.specs.Table.{Operand, Encoding, line, none, encodingOf, fits, every, encodeLine, encodeOf}
 use Rattle.word.specs.Decode.{choose, ramps, rampVars, sums, candidates, reading, isSuccess, decodeOf}
+use Rattle.word.specs.Classes.{isUndefined}
 use Rattle.word.specs.Steps.{stepAt, addressAt}
-use Rattle.word.specs.Theorems.{EncodedDecodes, OneWordPerCode, SixteenBits, DecodedEncodes, UndefinedExactly, operandsIn, operandsOf, SomeOutside, here, later, Refuses13, Refuses22, RefusesUpByZero, Succeeds, AllWithin, OperandsWithin, AddressWithin, StepWithin}
+use Rattle.word.specs.Theorems.{EncodedDecodes, OneWordPerCode, SixteenBits, DecodedEncodes, UndefinedExactly, UndefinedTest, operandsIn, operandsOf, SomeOutside, here, later, Refuses13, Refuses22, RefusesUpByZero, Succeeds, AllWithin, OperandsWithin, AddressWithin, StepWithin}
 use Rattle.word.proofs.Fields.{codeIn, parts, words-fit, words-positive, engines-fit, outputs-fit}
 use Rattle.word.proofs.Candidates.{chosen, past, read-row}
 
@@ -149,6 +150,30 @@ undefined-exactly P w = (
   λ u i e. not-undefined P i w e (sym (encoded-decodes P i w e) ∙ u),
   λ n. dropped P w (reading w) (isSuccess (encodeOf P (reading w)) w) refl (n (reading w)),
 )
+
+only-tested : (i : Word) → isUndefined i ≡ true → i ≡ Undefined
+only-tested Rst e = absurd (true≢false (sym e))
+only-tested (Ramp p t d n) e = absurd (true≢false (sym e))
+only-tested (Wait p t) e = absurd (true≢false (sym e))
+only-tested (Set n) e = absurd (true≢false (sym e))
+only-tested (RampVar p d l r) e = absurd (true≢false (sym e))
+only-tested (SetVar v) e = absurd (true≢false (sym e))
+only-tested (BranchVar v s) e = absurd (true≢false (sym e))
+only-tested (Jump o k l r) e = absurd (true≢false (sym e))
+only-tested (Arith o v n) e = absurd (true≢false (sym e))
+only-tested (ArithVar o v l r) e = absurd (true≢false (sym e))
+only-tested (MuxAt o a) e = absurd (true≢false (sym e))
+only-tested MuxClr e = absurd (true≢false (sym e))
+only-tested (MuxSel k) e = absurd (true≢false (sym e))
+only-tested (MuxMove o) e = absurd (true≢false (sym e))
+only-tested (Branch c s) e = absurd (true≢false (sym e))
+only-tested (End i z) e = absurd (true≢false (sym e))
+only-tested Int e = absurd (true≢false (sym e))
+only-tested (Trigger w x) e = absurd (true≢false (sym e))
+only-tested Undefined e = refl
+
+pub undefined-test : UndefinedTest
+undefined-test i = (only-tested i, λ u. ap isUndefined u)
 
 -- ---- 4
 only-undefined : (i : Word) → encodingOf i ≡ none → i ≡ Undefined

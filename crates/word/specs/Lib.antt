@@ -6,3 +6,4 @@ pub mod Steps
 pub mod Decode
 pub mod Classes
 pub mod Theorems
+pub mod Examples

@@ -32,10 +32,11 @@ wordsOf LP5523 = 96
 abbrev pub pagesOf : Profile → ℕ
 pagesOf LP5523 = 6
 
--- Engines. In a trigger 1, 2, 4 stand for engines 1, 2, 3, so this is all of them together.
+-- Engines.
 abbrev pub enginesOf : Profile → ℕ
 enginesOf LP5523 = 3
 
+-- All engines together, as a trigger names them: 1, 2, 4 stand for engines 1, 2, 3.
 abbrev pub allEngines : Profile → ℕ
 allEngines P = 2 ^ enginesOf P - 1
 

@@ -15,6 +15,7 @@ use Rattle.word.specs.Field.{rangesOf}
 use Rattle.word.specs.Answer.{success}
 use Rattle.word.specs.Table.{Operand, Encoding, line, none, encodingOf, fits, encodeOf}
 use Rattle.word.specs.Decode.{decodeOf}
+use Rattle.word.specs.Classes.{isUndefined}
 
 -- 1. Whatever encodes to w decodes from w: no two words share a code, and no operand is ever shortened.
 abbrev pub EncodedDecodes : Type 0
@@ -34,6 +35,10 @@ DecodedEncodes = (P : Profile) (w : ℕ) → (decodeOf P w ≡ Undefined → ⊥
 -- 3. w decodes to Undefined exactly where no word encodes to it.
 abbrev pub UndefinedExactly : Type 0
 UndefinedExactly = (P : Profile) (w : ℕ) → (decodeOf P w ≡ Undefined) ↔ ((i : Word) → encodeOf P i ≡ success w → ⊥)
+
+-- So whether a word is undefined can be tested.
+abbrev pub UndefinedTest : Type 0
+UndefinedTest = (i : Word) → (isUndefined i ≡ true) ↔ (i ≡ Undefined)
 
 -- The operands that a word's line of the table has.
 abbrev pub operandsIn : Encoding → List Operand

@@ -8,13 +8,14 @@ use types.Run.{OneOf, miss}
 use denote.Enum.Declared.{tagOf}
 use Rattle.word.specs.Profile.{LP5523}
 use Rattle.plan.proofs.Verdict.{the-type}
+use Rattle.plan.proofs.Reports.{ranges-answer}
 use Rattle.plan.specs.declared.Plan.{Plan}
 use Rattle.plan.specs.declared.Verdict.{Verdict}
 use Rattle.plan.specs.declared.Verdict.the-variants.{Accept, WrongLength, InvalidRange, CodeOverlapsTable, UndefinedWord, SuccessorOutside, TableMisused, TableNotOpened, ReservedRowBit}
 use Rattle.plan.specs.Verdict.{reportOf}
 use Rattle.plan.specs.Check.{checkRangesOf}
 use Rattle.asm.specs.Reading.{ranged}
-use Rattle.asm.proofs.Ranges.{Ranged, fine, unordered, meeting, ranged-cases}
+use Rattle.asm.proofs.Ranges.{Ranged, fine, not-valid, not-disjoint, ranged-cases}
 use Rattle.assembler.proofs.assembler.judged.Statement.{statement}
 use Rattle.assembler.proofs.assembler.judged.Tie as tie
 
@@ -39,26 +40,26 @@ nothing p v e h = go (ranged-cases LP5523 p) (subst (λ (x : Verdict). (reportOf
   where
     go : {n : ℕ} → Ranged LP5523 p n → (n ≡ 11 → ⊥) × (n ≡ 12 → ⊥) → 0 ≡ n
     go (fine o a q) h = sym q
-    go (unordered o q) h = absurd (h .0 q)
-    go (meeting o a q) h = absurd (h .1 q)
+    go (not-valid o q) h = absurd (h .0 q)
+    go (not-disjoint o a q) h = absurd (h .1 q)
 
 returns : tie.Need-returns
 returns c ws =
     let r = c .before .before in
     let p = r .before .args .plan in
-    ap (λ (v : Verdict). ranged (reportOf v .number) p ws) (sym (c .enum-told .given .1) ∙ r .check-ranges .ensures)
+    ap (λ (v : Verdict). ranged (reportOf v .number) p ws) (sym (c .enum-told .given .1) ∙ ranges-answer (r .check-ranges .result) p (r .check-ranges .ensures))
 
 returns-2 : tie.Need-returns-2
 returns-2 c ws =
     let r = c .before .before in
     let p = r .before .args .plan in
-    ap (λ (v : Verdict). ranged (reportOf v .number) p ws) (sym (c .enum-told2 .given .1) ∙ r .check-ranges .ensures)
+    ap (λ (v : Verdict). ranged (reportOf v .number) p ws) (sym (c .enum-told2 .given .1) ∙ ranges-answer (r .check-ranges .result) p (r .check-ranges .ensures))
 
 returns-3 : tie.Need-returns-3
 returns-3 c ws =
     let r = c .before in
     let p = r .before .args .plan in
-    ap (λ (n : ℕ). ranged n p ws) (nothing p (r .check-ranges .result) (r .check-ranges .ensures) (c .match .keys3))
+    ap (λ (n : ℕ). ranged n p ws) (nothing p (r .check-ranges .result) (ranges-answer (r .check-ranges .result) p (r .check-ranges .ensures)) (c .match .keys3))
 
 pub judged-spec : {M : Type 1} → statement M
 judged-spec = tie.close (tie.spec (search needs) (search needs) (search needs) returns returns-2 returns-3)

@@ -2,6 +2,7 @@
 use Prim.Native.Nat.{ℕ}
 use mathlib.Core.Path.{_≡_}
 use mathlib.Core.Bool.{cond}
+use native.Mathlib.Omega.{arith}
 use borrow.Author.Needs.{needs}
 use borrow.Author.Tests.{eq-eqb, ne-eqb}
 use Rattle.word.specs.declared.Coded.{Coded}
@@ -43,7 +44,7 @@ decode-spec =
     (search needs)
     (λ c.
     let e = c .before .before .before .before in
-    same _ _ _ _ (e .before .read .ensures) (e .encode .ensures) (c .before .before .again .given .1) (c .if1 .taken))
+    same _ _ _ _ (e .before .read .ensures) (e .encode .ensures) (c .before .before .again .given .1) (omega (arith, c .if1 .taken)))
     (λ c.
     let e = c .before .before .before .before in
     other _ _ _ _ (e .before .read .ensures) (e .encode .ensures) (c .before .before .again .given .1) (c .if1 .left))

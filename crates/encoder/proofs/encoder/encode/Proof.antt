@@ -1,12 +1,12 @@
 -- `encoder::encoder::encode` meets its contract: each arm's call ensures the table's line, and the arm knows its case. Assumes nothing.
-use mathlib.Core.Path.{refl, ap}
+use mathlib.Core.Path.{refl}
 use native.Mathlib.Omega.{arith}
 use lib.Dec.{lit<}
 use Rattle.laws.proofs.Matches.{via}
 use Rattle.word.specs.Profile.{LP5523}
-use Rattle.word.specs.Answer.{success}
 use Rattle.word.specs.Table.{encodeOf}
-use Rattle.word.proofs.Bases.{jump-fits, arith-fits, arith-var-fits, mux-at-fits}
+use Rattle.word.proofs.Bases.{jump-fits, arith-fits, arith-var-fits}
+use Rattle.word.proofs.Later.{later}
 use Rattle.encoder.proofs.encoder.encode.Statement.{statement}
 use Rattle.encoder.proofs.encoder.encode.Tie as tie
 
@@ -36,22 +36,7 @@ encode-spec =
     (λ c. c .match .keys10)
     (λ c κs. tt)
     (λ c κs. omega (arith, c .arith-var-base .ensures, arith-var-fits (c .before .before .word9 .given .0 .0)))
-    (λ c. c .match .keys11)
-    (λ c κs. tt)
-    (λ c κs. omega (arith, c .mux-at-base .ensures, mux-at-fits (c .before .before .word10 .given .0 .0)))
-    (λ c. c .match .keys12)
-    (λ c. c .match .keys13)
-    (λ c κs. tt)
-    (λ c. c .match .keys14)
-    (λ c κs. tt)
-    (λ c. c .match .keys15)
-    (λ c κs. lit< tt)
-    (λ c. c .match .keys16)
-    (λ c κs. lit< tt)
-    (λ c. c .match .keys17)
-    (λ c. c .match .keys18)
-    (λ c κs. tt)
-    (λ c. c .match .keys19)
+    (λ c κs. later 0 10 _ refl (omega arith) (c .match .keys11))
     (λ c. via (encodeOf LP5523) refl (c .enum-told .given .1))
     (λ c. via (encodeOf LP5523) (c .ramp .ensures) (c .before .before .word .given .1))
     (λ c. via (encodeOf LP5523) (c .wait .ensures) (c .before .before .word2 .given .1))
@@ -62,12 +47,4 @@ encode-spec =
     (λ c. via (encodeOf LP5523) (rw (c .before .jump-base .ensures) at (c .three .ensures)) (c .before .before .before .word7 .given .1))
     (λ c. via (encodeOf LP5523) (rw (c .before .arith-base .ensures) at (c .two2 .ensures)) (c .before .before .before .word8 .given .1))
     (λ c. via (encodeOf LP5523) (rw (c .before .arith-var-base .ensures) at (c .three2 .ensures)) (c .before .before .before .word9 .given .1))
-    (λ c. via (encodeOf LP5523) (rw (c .before .mux-at-base .ensures) at (c .one3 .ensures)) (c .before .before .before .word10 .given .1))
-    (λ c. via (encodeOf LP5523) refl (c .enum-told2 .given .1))
-    (λ c. via (encodeOf LP5523) (c .mux-sel .ensures) (c .before .before .word11 .given .1))
-    (λ c. via (encodeOf LP5523) (ap success (c .mux-move-code .ensures)) (c .before .before .word12 .given .1))
-    (λ c. via (encodeOf LP5523) (c .two3 .ensures) (c .before .before .word13 .given .1))
-    (λ c. via (encodeOf LP5523) (c .scaled .ensures) (c .before .before .word14 .given .1))
-    (λ c. via (encodeOf LP5523) refl (c .enum-told3 .given .1))
-    (λ c. via (encodeOf LP5523) (c .trigger .ensures) (c .before .before .word15 .given .1))
-    (λ c. via (encodeOf LP5523) refl (c .enum-told4 .given .1)))
+    (λ c. c .encode-later .ensures))
