@@ -23,4 +23,7 @@ pub mod Trace
 pub mod Safe
 pub mod Theorems
 pub mod Examples
+pub mod CaseTable
+pub mod BeatRules
+pub mod RegisterRules
 pub mod Cases
