@@ -18,7 +18,7 @@ use Rattle.machine.specs.Registers.{registerAt}
 use Rattle.machine.specs.Burst.{bytesWritten, burstOf}
 use Rattle.machine.specs.Interrupts.{readOf}
 use Rattle.machine.specs.CaseTable.{Case, AllHold, joined}
-use Rattle.machine.specs.BeatRules.{turnRules, durationRules, variableRules, outputRules, triggerRules, runRules}
+use Rattle.machine.specs.BeatRules.{turnRules, durationRules, variableRules, outputRules, triggerRules, outsideRules, runRules}
 use Rattle.machine.specs.RegisterRules.{registerRules, refusalRules}
 use Rattle.machine.specs.Cases.{wordCases, beatCases, easyErrors, CasesHold}
 
@@ -36,7 +36,7 @@ easy-errors-hold = (refl, (refl, (refl, (refl, (refl, (refl, (refl, (refl, (refl
 
 turn-rules-hold : AllHold turnRules
 unfolding decodeOf reading inside finish waits ramps holder outputAfter assigns branches triggers receives pulsed points stops begins beatOf turn stopped turns tick
-turn-rules-hold = (refl, (refl, (refl, (refl, (refl, (refl, (refl, (refl, (refl, (refl, (refl, (refl, (refl, (refl, (refl, (refl, (refl, (refl, (refl, (refl, (refl, (refl, (refl, (refl, (refl, (refl, tt))))))))))))))))))))))))))
+turn-rules-hold = (refl, (refl, (refl, (refl, (refl, (refl, (refl, (refl, (refl, (refl, (refl, (refl, (refl, (refl, (refl, (refl, (refl, (refl, (refl, (refl, (refl, (refl, (refl, (refl, (refl, (refl, (refl, tt)))))))))))))))))))))))))))
 
 duration-rules-hold : AllHold durationRules
 unfolding decodeOf reading inside finish waits ramps holder outputAfter assigns branches triggers receives pulsed points stops begins beatOf turn stopped turns tick
@@ -48,11 +48,15 @@ variable-rules-hold = (refl, (refl, (refl, (refl, (refl, (refl, (refl, (refl, (r
 
 output-rules-hold : AllHold outputRules
 unfolding decodeOf reading inside finish waits ramps holder outputAfter assigns branches triggers receives pulsed points stops begins beatOf turn stopped turns tick
-output-rules-hold = (refl, (refl, (refl, (refl, (refl, (refl, (refl, (refl, (refl, (refl, (refl, (refl, (refl, (refl, (refl, (refl, (refl, (refl, (refl, (refl, tt))))))))))))))))))))
+output-rules-hold = (refl, (refl, (refl, (refl, (refl, (refl, (refl, (refl, (refl, (refl, (refl, (refl, (refl, (refl, (refl, (refl, (refl, (refl, (refl, (refl, (refl, tt)))))))))))))))))))))
 
 trigger-rules-hold : AllHold triggerRules
 unfolding decodeOf reading inside finish waits ramps holder outputAfter assigns branches triggers receives pulsed points stops begins beatOf turn stopped turns tick
 trigger-rules-hold = (refl, (refl, (refl, (refl, (refl, (refl, (refl, (refl, (refl, (refl, (refl, (refl, (refl, (refl, (refl, (refl, (refl, tt)))))))))))))))))
+
+outside-rules-hold : AllHold outsideRules
+unfolding decodeOf reading inside finish waits ramps holder outputAfter assigns branches triggers receives pulsed points stops begins beatOf turn stopped turns tick
+outside-rules-hold = (refl, (refl, (refl, (refl, (refl, tt)))))
 
 run-rules-hold : AllHold runRules
 unfolding decodeOf reading inside finish waits ramps holder outputAfter assigns branches triggers receives pulsed points stops begins beatOf turn stopped turns tick quiet beatsMore runOf
@@ -82,5 +86,5 @@ all-joined (t ∷ ts) h = all-append t (joined ts) (h .0) (all-joined ts (h .1))
 pub cases-hold : CasesHold
 cases-hold =
     all-joined
-    (wordCases ∷ beatCases ∷ easyErrors ∷ turnRules ∷ durationRules ∷ variableRules ∷ outputRules ∷ triggerRules ∷ runRules ∷ registerRules ∷ refusalRules ∷ [])
-    (word-cases-hold, (beat-cases-hold, (easy-errors-hold, (turn-rules-hold, (duration-rules-hold, (variable-rules-hold, (output-rules-hold, (trigger-rules-hold, (run-rules-hold, (register-rules-hold, (refusal-rules-hold, tt)))))))))))
+    (wordCases ∷ beatCases ∷ easyErrors ∷ turnRules ∷ durationRules ∷ variableRules ∷ outputRules ∷ triggerRules ∷ outsideRules ∷ runRules ∷ registerRules ∷ refusalRules ∷ [])
+    (word-cases-hold, (beat-cases-hold, (easy-errors-hold, (turn-rules-hold, (duration-rules-hold, (variable-rules-hold, (output-rules-hold, (trigger-rules-hold, (outside-rules-hold, (run-rules-hold, (register-rules-hold, (refusal-rules-hold, tt))))))))))))

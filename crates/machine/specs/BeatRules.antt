@@ -4,7 +4,7 @@ use mathlib.Core.Bool.{Bool, true, false}
 use mathlib.Core.List.{List, [], _∷_, map}
 use lib.ListN.{set, replicate}
 use Rattle.word.specs.Profile.{LP5523}
-use Rattle.word.specs.Steps.{stepAt}
+use Rattle.word.specs.Steps.{stepAt, addressAt}
 use Rattle.word.specs.declared.Direction.the-variants.{Up}
 use Rattle.machine.specs.declared.Mode.{Mode}
 use Rattle.machine.specs.declared.Mode.the-variants.{Disabled, Load, Run, Halt}
@@ -13,7 +13,9 @@ use Rattle.machine.specs.declared.Exec.the-variants.{Hold, SingleStep, F
 use Rattle.machine.specs.declared.Progress.the-variants.{Waiting, Ramping, Triggering}
 use Rattle.machine.specs.declared.Engine.{Engine}
 use Rattle.machine.specs.declared.Chip.{Chip}
-use Rattle.machine.specs.Parts.{pointers, zeroEngine, withMode, withExec, withPc, withMask, withTable, withPending, withInterrupt, withFault, withProgress, withLoops, withVariables, withEnabled, withD}
+use Rattle.machine.specs.Parts.{pointers, zeroEngine, withMode, withExec, withStart, withPc, withMask, withTable, withPending, withInterrupt, withFault, withProgress, withLoops, withVariables, withEnabled, withD}
+use Rattle.machine.specs.Outputs.{rowBit}
+use Rattle.machine.specs.Turn.{turn}
 use Rattle.machine.specs.Tick.{tick}
 use Rattle.machine.specs.Outcome.{numberOf}
 use Rattle.machine.specs.Run.{runOf}
@@ -70,6 +72,8 @@ turnRules =
     map (λ (x : Exec). words1 1 (chipAt (withExec x running) 0x9D00)) (Hold ∷ SingleStep ∷ Free ∷ Once ∷ []) is (0 ∷ 1 ∷ 1 ∷ 1 ∷ []) ∷
     map (λ (x : Mode). words1 1 (chipAt (withMode x (withProgress (Waiting 1) running)) 0x9D00)) (Disabled ∷ Load ∷ Run ∷ Halt ∷ []) is (0 ∷ 0 ∷ 1 ∷ 0 ∷ []) ∷
     map (λ (x : Exec). words1 1 (chipAt (withExec x (withProgress (Waiting 1) running)) 0x9D00)) (Hold ∷ SingleStep ∷ Free ∷ Once ∷ []) is (1 ∷ 1 ∷ 1 ∷ 1 ∷ []) ∷
+    -- the turn of an engine that doesn't act changes nothing, sends nothing and ends no word
+    turn LP5523 1 (chipAt running 0x9D00) is record { chip = chipAt running 0x9D00; send = 0; ended = false } ∷
     -- mid-word is a wait, a ramp or a trigger in progress: the engine is held, and its word goes on
     engineFrom (withExec Hold (withProgress (Waiting 5) running)) 0x9D00 is withExec Hold (withProgress (Waiting 4) running) ∷
     engineFrom (withExec Hold (withProgress (Ramping Up 3 2 4) running)) 0x9D00 is withExec Hold (withProgress (Ramping Up 3 1 4) running) ∷
@@ -209,6 +213,7 @@ outputRules =
     -- "GPO is row bit 15, D1..D9 are row bits 0..8, other row bits are ignored": map-addr of the rows 8 and 9
     engineAfter 0x9F88 is withMask 0x0008 (withTable (pointers 6 9 8) goneOn) ∷
     engineAfter 0x9F89 is withMask 0x8010 (withTable (pointers 6 9 9) goneOn) ∷
+    map (rowBit LP5523) (0 ∷ 1 ∷ 8 ∷ 9 ∷ []) is (0 ∷ 1 ∷ 8 ∷ 15 ∷ []) ∷
     -- mux-clr, mux-sel of D3 and of the GPO
     engineAfter 0x9D00 is withMask 0 goneOn ∷
     engineAfter 0x9D03 is withMask 0x0004 goneOn ∷
@@ -264,6 +269,19 @@ triggerRules =
     sentBy 0 0xE040 is (0 ∷ 0 ∷ 0 ∷ []) ∷
     -- set and the other words send nothing
     map (λ (w : ℕ). pendingOf (chipAfter w)) (0x40FF ∷ 0x8460 ∷ 0x0201 ∷ 0xA201 ∷ 0xC400 ∷ 0x9D00 ∷ []) is replicate 6 (33 ∷ 0 ∷ 0 ∷ []) ∷ []
+
+-- Values that no chip of document 01 has (`StaysWithin` and `PcStays`, specs/Theorems.antt): every definition answers there too.
+abbrev pub outsideRules : List Case
+outsideRules =
+    -- PC moves on modulo 65,536: at the end of a wait
+    engineFrom (withPc (stepAt 65535) (withProgress (Waiting 1) running)) 0x9D00 is withPc (stepAt 0) running ∷
+    -- past the memory a fetch reads 0, which is rst, and a row is 0
+    engineFrom (withStart (addressAt 200) running) 0x9D00 is withPc (stepAt 0) (withLoops (replicate 96 0) (withStart (addressAt 200) running)) ∷
+    engineFrom (withTable (pointers 100 7 7) running) 0x9D80 is withMask 0 (withTable (pointers 100 7 100) goneOn) ∷
+    -- next goes to the top past the last word too
+    map (indexAfter 0x9D81) (96 ∷ 200 ∷ []) is (6 ∷ 6 ∷ []) ∷
+    -- an output that isn't there has no bit of a row: its 16 bits are 0 to 15
+    rowBit LP5523 10 is 16 ∷ []
 
 -- A run's answer: number, beats done, words finished by each engine.
 abbrev pub runAnswer : ℕ → Chip → List ℕ

@@ -20,7 +20,7 @@ use Rattle.machine.specs.Parts.{zeroEngine, withMode, withMask, withFaul
 use Rattle.machine.specs.Turn.{addressOf}
 use Rattle.machine.specs.Examples.{runningFrom, enabledChip}
 use Rattle.machine.specs.CaseTable.{Case, _is_, AllHold, joined, placed, program, engine1Alone, freeEngine, atStep, masked, fromLevel, afterBeats, engine1, levelsOf, levelOf, pendingOf, holdersOf, words1, words2, pcsOf, both}
-use Rattle.machine.specs.BeatRules.{turnRules, durationRules, variableRules, outputRules, triggerRules, runRules}
+use Rattle.machine.specs.BeatRules.{turnRules, durationRules, variableRules, outputRules, triggerRules, outsideRules, runRules}
 use Rattle.machine.specs.RegisterRules.{registerRules, refusalRules}
 
 abbrev pub wordCases : List Case
@@ -109,7 +109,7 @@ abbrev pub cases : List Case
 cases =
     joined (
     wordCases ∷ beatCases ∷ easyErrors ∷
-    turnRules ∷ durationRules ∷ variableRules ∷ outputRules ∷ triggerRules ∷ runRules ∷
+    turnRules ∷ durationRules ∷ variableRules ∷ outputRules ∷ triggerRules ∷ outsideRules ∷ runRules ∷
     registerRules ∷ refusalRules ∷ [])
 
 abbrev pub CasesHold : Type 0

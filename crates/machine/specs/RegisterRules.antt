@@ -75,8 +75,10 @@ registerRules =
     written 0x4C (7 ∷ 0 ∷ 95 ∷ []) (three (filledEngine Load) (filledEngine Disabled) (filledEngine Load)) is
     three (withStart (addressAt 7) (filledEngine Load)) (withStart (addressAt 0) (filledEngine Disabled)) (withStart (addressAt 95) (filledEngine Load)) ∷
     written 0x4F (5 ∷ []) (inModes Run Run Run) is withPage 5 (inModes Run Run Run) ∷
-    -- "50h..6Fh: 16 words of the page, high byte first": of page 2 the first word, its low byte alone, and its last word's high byte
-    written 0x50 (0x12 ∷ 0x34 ∷ []) (inModes Load Run Run) is withMemory (set (replicate 96 0xABCD) 32 0x1234) (inModes Load Run Run) ∷
+    -- "50h..6Fh: 16 words of the page, high byte first": of page 2 the first two words, the first word's low byte alone, and the
+    -- last word's high byte
+    written 0x50 (0x12 ∷ 0x34 ∷ 0x56 ∷ 0x78 ∷ []) (inModes Load Run Run) is
+    withMemory (set (set (replicate 96 0xABCD) 32 0x1234) 33 0x5678) (inModes Load Run Run) ∷
     written 0x51 (0x34 ∷ []) (inModes Load Run Run) is withMemory (set (replicate 96 0xABCD) 32 0xAB34) (inModes Load Run Run) ∷
     written 0x6E (0x12 ∷ []) (inModes Load Run Run) is withMemory (set (replicate 96 0xABCD) 47 0x12CD) (inModes Load Run Run) ∷
     -- "A burst is a first address and bytes; the address grows by one after each byte": the page, and two bytes of it
