@@ -10,6 +10,7 @@ pub mod Words
 pub mod Turn
 pub mod Tick
 pub mod Outcome
+pub mod Reports
 pub mod Run
 pub mod Registers
 pub mod Judged
