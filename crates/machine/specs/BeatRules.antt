@@ -35,7 +35,7 @@ goneOn = withPc (stepAt 3) running
 -- Engine 1 with a word of its own at address 3; the others are disabled. C is 10, D is 20. The rows 6 to 10 have D2, D3, D4 and the row
 -- bits 9 to 14, D5 and the GPO, D6.
 abbrev pub chipAt : Engine → ℕ → Chip
-chipAt e w = filledChip (placed (program (0 ∷ 0 ∷ 0 ∷ w ∷ [])) 6 (0x0002 ∷ 0x0004 ∷ 0x7E08 ∷ 0x8010 ∷ 0x0020 ∷ [])) (e ∷ zeroEngine LP5523 ∷ zeroEngine LP5523 ∷ [])
+chipAt e w = filledChip (placed (set (program []) 3 w) 6 (0x0002 ∷ 0x0004 ∷ 0x7E08 ∷ 0x8010 ∷ 0x0020 ∷ [])) (e ∷ zeroEngine LP5523 ∷ zeroEngine LP5523 ∷ [])
 
 abbrev pub chipAfter : ℕ → Chip
 chipAfter w = afterBeats 1 (chipAt running w)
@@ -51,9 +51,16 @@ engineFrom e w = engine1 (afterBeats 1 (chipAt e w))
 abbrev pub endedOf : List ℕ → List ℕ
 endedOf ws = map (λ (w : ℕ). words1 1 (chipAt running w)) ws
 
+-- The words that engine 1 has finished, and D1's level, after each of these numbers of beats.
+abbrev pub wordsAt : List ℕ → Chip → List ℕ
+wordsAt ns m = map (λ (n : ℕ). words1 n m) ns
+
+abbrev pub levelsAt : List ℕ → Chip → List ℕ
+levelsAt ns m = map (λ (n : ℕ). levelOf (afterBeats n m)) ns
+
 -- Engine 1 from address 90 on, at a step, with D1 in its mask; the words at 90 and 95 set different levels.
 abbrev pub fromNinety : ℕ → Chip
-fromNinety s = enabledChip (placed (program []) 90 (0x4007 ∷ 0 ∷ 0 ∷ 0 ∷ 0 ∷ 0x4009 ∷ [])) (withMask 1 (withPc (stepAt s) (runningFrom 90)) ∷ zeroEngine LP5523 ∷ zeroEngine LP5523 ∷ [])
+fromNinety s = enabledChip (set (set (program []) 90 0x4007) 95 0x4009) (withMask 1 (withPc (stepAt s) (runningFrom 90)) ∷ zeroEngine LP5523 ∷ zeroEngine LP5523 ∷ [])
 
 abbrev pub turnRules : List Case
 turnRules =
@@ -103,34 +110,34 @@ durationRules =
     endedOf (0x0000 ∷ 0x40FF ∷ 0x8460 ∷ 0x8604 ∷ 0x8800 ∷ 0x8A00 ∷ 0x8C00 ∷ 0x8E00 ∷ 0x9000 ∷ 0x9100 ∷ 0x9200 ∷ 0x9300 ∷ 0x9310 ∷ []) is replicate 13 1 ∷
     endedOf (0x9C06 ∷ 0x9C86 ∷ 0x9E06 ∷ 0x9F06 ∷ 0x9F86 ∷ 0x9D00 ∷ 0x9D01 ∷ 0x9D80 ∷ 0x9D81 ∷ 0x9DC0 ∷ 0x9DC1 ∷ 0xA001 ∷ 0xC000 ∷ 0xC400 ∷ 0xE000 ∷ []) is replicate 15 1 ∷
     -- "wait takes t beats (32t if p=1)": 0600 and 4200
-    map (λ (n : ℕ). words1 n (chipAt running 0x0600)) (2 ∷ 3 ∷ []) is (0 ∷ 1 ∷ []) ∷
-    map (λ (n : ℕ). words1 n (chipAt running 0x4200)) (31 ∷ 32 ∷ []) is (0 ∷ 1 ∷ []) ∷
+    wordsAt (2 ∷ 3 ∷ []) (chipAt running 0x0600) is (0 ∷ 1 ∷ []) ∷
+    wordsAt (31 ∷ 32 ∷ []) (chipAt running 0x4200) is (0 ∷ 1 ∷ []) ∷
     -- "ramp takes that times n", and "at the end of each of its n parts each held output moves by one": up and down by 3, in parts of 2
-    map (λ (n : ℕ). levelOf (afterBeats n (chipAt running 0x0403))) (1 ∷ 2 ∷ 3 ∷ 4 ∷ 5 ∷ 6 ∷ []) is (100 ∷ 101 ∷ 101 ∷ 102 ∷ 102 ∷ 103 ∷ []) ∷
-    map (λ (n : ℕ). levelOf (afterBeats n (chipAt running 0x0503))) (1 ∷ 2 ∷ 3 ∷ 4 ∷ 5 ∷ 6 ∷ []) is (100 ∷ 99 ∷ 99 ∷ 98 ∷ 98 ∷ 97 ∷ []) ∷
-    map (λ (n : ℕ). words1 n (chipAt running 0x0403)) (5 ∷ 6 ∷ []) is (0 ∷ 1 ∷ []) ∷
-    map (λ (n : ℕ). words1 n (chipAt running 0x4201)) (31 ∷ 32 ∷ []) is (0 ∷ 1 ∷ []) ∷
+    levelsAt (1 ∷ 2 ∷ 3 ∷ 4 ∷ 5 ∷ 6 ∷ []) (chipAt running 0x0403) is (100 ∷ 101 ∷ 101 ∷ 102 ∷ 102 ∷ 103 ∷ []) ∷
+    levelsAt (1 ∷ 2 ∷ 3 ∷ 4 ∷ 5 ∷ 6 ∷ []) (chipAt running 0x0503) is (100 ∷ 99 ∷ 99 ∷ 98 ∷ 98 ∷ 97 ∷ []) ∷
+    wordsAt (5 ∷ 6 ∷ []) (chipAt running 0x0403) is (0 ∷ 1 ∷ []) ∷
+    wordsAt (31 ∷ 32 ∷ []) (chipAt running 0x4201) is (0 ∷ 1 ∷ []) ∷
     engine1 (afterBeats 6 (chipAt running 0x0403)) is goneOn ∷
     -- "saturating in 0..255"
     map (λ (n : ℕ). levelOf (afterBeats 1 (fromLevel n (engine1Alone (masked 1) (0x0201 ∷ []))))) (0 ∷ 254 ∷ 255 ∷ []) is (1 ∷ 255 ∷ 255 ∷ []) ∷
     map (λ (n : ℕ). levelOf (afterBeats 1 (fromLevel n (engine1Alone (masked 1) (0x0301 ∷ []))))) (0 ∷ 1 ∷ 255 ∷ []) is (0 ∷ 0 ∷ 254 ∷ []) ∷
     -- "n=0 lasting as n=1", and nothing moves: 0500, a ramp down by 0 in parts of 2
-    map (λ (n : ℕ). words1 n (chipAt running 0x0500)) (1 ∷ 2 ∷ []) is (0 ∷ 1 ∷ []) ∷
+    wordsAt (1 ∷ 2 ∷ []) (chipAt running 0x0500) is (0 ∷ 1 ∷ []) ∷
     levelOf (afterBeats 2 (chipAt running 0x0500)) is 100 ∷
     -- so does a ramp by a variable that is 0: by B, in parts of A (8401)
-    map (λ (n : ℕ). words1 n (chipAt (withVariables 2 0 running) 0x8401)) (1 ∷ 2 ∷ []) is (0 ∷ 1 ∷ []) ∷
+    wordsAt (1 ∷ 2 ∷ []) (chipAt (withVariables 2 0 running) 0x8401) is (0 ∷ 1 ∷ []) ∷
     levelOf (afterBeats 2 (chipAt (withVariables 2 0 running) 0x8401)) is 100 ∷
     -- ramp-var: up by B (4), in parts of A (3); down; with prescale, by A of 1 in parts of B of 1
-    map (λ (n : ℕ). levelOf (afterBeats n (chipAt running 0x8401))) (2 ∷ 3 ∷ 11 ∷ 12 ∷ []) is (100 ∷ 101 ∷ 103 ∷ 104 ∷ []) ∷
-    map (λ (n : ℕ). words1 n (chipAt running 0x8401)) (11 ∷ 12 ∷ []) is (0 ∷ 1 ∷ []) ∷
+    levelsAt (2 ∷ 3 ∷ 11 ∷ 12 ∷ []) (chipAt running 0x8401) is (100 ∷ 101 ∷ 103 ∷ 104 ∷ []) ∷
+    wordsAt (11 ∷ 12 ∷ []) (chipAt running 0x8401) is (0 ∷ 1 ∷ []) ∷
     levelOf (afterBeats 12 (chipAt running 0x8411)) is 96 ∷
-    map (λ (n : ℕ). words1 n (chipAt (withVariables 1 1 running) 0x8424)) (31 ∷ 32 ∷ []) is (0 ∷ 1 ∷ []) ∷
+    wordsAt (31 ∷ 32 ∷ []) (chipAt (withVariables 1 1 running) 0x8424) is (0 ∷ 1 ∷ []) ∷
     -- "Variable ramps read both values at the fetch": time=D count=C (840E), both 2; after its first beat C is 0 and D is 31
-    map (λ (n : ℕ). words1 n (withD 31 (afterBeats 2 (withD 2 (both (0x9802 ∷ 0x840E ∷ []) (0x9D00 ∷ 0x9800 ∷ [])))))) (2 ∷ 3 ∷ []) is (0 ∷ 1 ∷ []) ∷
+    wordsAt (2 ∷ 3 ∷ []) (withD 31 (afterBeats 2 (withD 2 (both (0x9802 ∷ 0x840E ∷ []) (0x9D00 ∷ 0x9800 ∷ []))))) is (0 ∷ 1 ∷ []) ∷
     -- "time 0 counts as 1 and above 31 as 31 (HOUSE)"
-    map (λ (n : ℕ). words1 n (chipAt (withVariables 0 2 running) 0x8401)) (1 ∷ 2 ∷ []) is (0 ∷ 1 ∷ []) ∷
-    map (λ (n : ℕ). words1 n (chipAt (withVariables 31 1 running) 0x8401)) (30 ∷ 31 ∷ []) is (0 ∷ 1 ∷ []) ∷
-    map (λ (n : ℕ). words1 n (chipAt (withVariables 32 1 running) 0x8401)) (30 ∷ 31 ∷ []) is (0 ∷ 1 ∷ []) ∷ []
+    wordsAt (1 ∷ 2 ∷ []) (chipAt (withVariables 0 2 running) 0x8401) is (0 ∷ 1 ∷ []) ∷
+    wordsAt (30 ∷ 31 ∷ []) (chipAt (withVariables 31 1 running) 0x8401) is (0 ∷ 1 ∷ []) ∷
+    wordsAt (30 ∷ 31 ∷ []) (chipAt (withVariables 32 1 running) 0x8401) is (0 ∷ 1 ∷ []) ∷ []
 
 -- Variables A, B, C, D after a beat of a word; they begin as 3, 4, 10, 20.
 abbrev pub variablesAfter : ℕ → List ℕ
@@ -148,7 +155,7 @@ abbrev pub variableRules : List Case
 variableRules =
     -- "v, l, r are variable numbers 0..3 = A, B, C, D": set-var from each
     map (λ (w : ℕ). levelOf (chipAfter w)) (0x8460 ∷ 0x8461 ∷ 0x8462 ∷ 0x8463 ∷ []) is (3 ∷ 4 ∷ 10 ∷ 20 ∷ []) ∷
-    -- "ld, add, sub", to A, B and C
+    -- "ld, add, sub": ld to A, B and C; add and sub to C
     variablesAfter 0x9007 is (7 ∷ 4 ∷ 10 ∷ 20 ∷ []) ∷
     variablesAfter 0x9407 is (3 ∷ 7 ∷ 10 ∷ 20 ∷ []) ∷
     variablesAfter 0x9807 is (3 ∷ 4 ∷ 7 ∷ 20 ∷ []) ∷
@@ -206,7 +213,8 @@ abbrev pub outputRules : List Case
 outputRules =
     -- "An output is held by the lowest-numbered engine whose mask has it (HOUSE)"
     holdersOf (sharing [] [] []) is (1 ∷ 2 ∷ 3 ∷ 0 ∷ 0 ∷ 0 ∷ 0 ∷ 0 ∷ 0 ∷ 3 ∷ []) ∷
-    -- "Only the holder's set and ramp change it": sets to 11, 12, 13; then each ramps up by one
+    -- "Only the holder's set and ramp change it": sets to 11, 12, 13, a set by engine 3 alone, and ramps up
+    -- by one
     levelsOf (afterBeats 1 (sharing (0x400B ∷ []) (0x400C ∷ []) (0x400D ∷ []))) is (11 ∷ 12 ∷ 13 ∷ 0 ∷ 0 ∷ 0 ∷ 0 ∷ 0 ∷ 0 ∷ 13 ∷ []) ∷
     levelsOf (afterBeats 1 (sharing [] [] (0x400D ∷ []))) is (0 ∷ 0 ∷ 13 ∷ 0 ∷ 0 ∷ 0 ∷ 0 ∷ 0 ∷ 0 ∷ 13 ∷ []) ∷
     levelsOf (afterBeats 1 (sharing (0x0201 ∷ []) (0x0201 ∷ []) (0x0201 ∷ []))) is (1 ∷ 1 ∷ 1 ∷ 0 ∷ 0 ∷ 0 ∷ 0 ∷ 0 ∷ 0 ∷ 1 ∷ []) ∷
@@ -225,7 +233,7 @@ outputRules =
     engineAfter 0x9C8A is withTable (pointers 6 10 7) goneOn ∷
     engineAfter 0x9F0A is withTable (pointers 6 9 10) goneOn ∷
     engineAfter 0x9F8A is withMask 0x0020 (withTable (pointers 6 9 10) goneOn) ∷
-    -- "\"map\" forms take the mask from the row at the new index": next and prev, without and with it
+    -- ""map" forms take the mask from the row at the new index": next and prev, without and with it
     engineAfter 0x9D81 is withTable (pointers 6 9 8) goneOn ∷
     engineAfter 0x9D80 is withMask 0x0008 (withTable (pointers 6 9 8) goneOn) ∷
     engineAfter 0x9DC1 is withTable (pointers 6 9 6) goneOn ∷

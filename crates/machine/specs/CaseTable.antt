@@ -4,7 +4,7 @@ use mathlib.Core.Bool.{true}
 use mathlib.Core.List.{List, [], _∷_, _++_, map}
 use mathlib.Core.Path.{_≡_}
 use lib.ListN.{getD, set, replicate}
-use Rattle.word.specs.Profile.{LP5523}
+use Rattle.word.specs.Profile.{LP5523, upward, wordsOf}
 use Rattle.word.specs.Steps.{stepAt, addressAt}
 use Rattle.machine.specs.declared.Mode.{Mode}
 use Rattle.machine.specs.declared.Exec.{Exec}
@@ -42,7 +42,7 @@ placed memory a (w ∷ ws) = placed (set memory a w) (a + 1) ws
 
 -- A memory that begins with these words.
 abbrev pub program : List ℕ → List ℕ
-program ws = placed (replicate 96 0) 0 ws
+program ws = placed (replicate (wordsOf LP5523) 0) 0 ws
 
 -- Engine 1 alone, on a memory that begins with these words; the others are disabled.
 abbrev pub engine1Alone : Engine → List ℕ → Chip
@@ -86,7 +86,7 @@ pendingOf m = map (λ (e : Engine). e .pending) (m .engines)
 
 -- Who holds D1..D9 and the GPO; 0 is nobody.
 abbrev pub holdersOf : Chip → List ℕ
-holdersOf m = map (holder LP5523 (m .engines)) (0 ∷ 1 ∷ 2 ∷ 3 ∷ 4 ∷ 5 ∷ 6 ∷ 7 ∷ 8 ∷ 9 ∷ [])
+holdersOf m = map (holder LP5523 (m .engines)) (upward 0 10)
 
 -- The words that an engine, counted from 1, has finished after n beats.
 abbrev pub words1 : ℕ → Chip → ℕ
@@ -132,6 +132,6 @@ filledChip memory engines =
       d = 20;
       page = 2;
       memory = memory;
-      outputs = map (λ (n : ℕ). lit n) (100 ∷ 101 ∷ 102 ∷ 103 ∷ 104 ∷ 105 ∷ 106 ∷ 107 ∷ 108 ∷ 109 ∷ []);
+      outputs = map (λ (n : ℕ). lit n) (upward 100 10);
       engines = engines;
     }
