@@ -8,6 +8,7 @@ use machine::WriteResult;
 ghost use mathlib.Core.Bool.{not};
 ghost use mathlib.Core.Path.{_≡_};
 ghost use Rattle.word.specs.Profile.{LP5523};
+ghost use Rattle.machine.specs.Reports.{writeReportOf};
 ghost use Rattle.machine.specs.Burst.{visited, someUnlisted, bytesWritten, burstOf};
 
 // No listed address is near the end of a u16, so the next one is always there.
@@ -28,7 +29,7 @@ fn all_listed(first: u16, bytes: &[u8]) -> bool
 
 // The bytes in order, up to the first refusal.
 fn write_bytes(chip: Chip, first: u16, bytes: &[u8]) -> WriteResult
-    ensures { λ r. ⌜ r ≡ bytesWritten LP5523 (visited first (now (bytes .entry))) chip ⌝ }
+    ensures { λ r. ⌜ writeReportOf r ≡ writeReportOf (bytesWritten LP5523 (visited first (now (bytes .entry))) chip) ⌝ }
 {
     let mut changed = chip;
     let mut address = first;
@@ -51,7 +52,7 @@ fn write_bytes(chip: Chip, first: u16, bytes: &[u8]) -> WriteResult
 }
 
 pub fn burst(chip: Chip, first: u16, bytes: &[u8]) -> WriteResult
-    ensures { λ r. ⌜ r ≡ burstOf LP5523 first (now (bytes .entry)) chip ⌝ }
+    ensures { λ r. ⌜ writeReportOf r ≡ writeReportOf (burstOf LP5523 first (now (bytes .entry)) chip) ⌝ }
 {
     if bytes.len() == 0 {
         return WriteResult {

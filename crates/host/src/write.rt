@@ -16,11 +16,12 @@ use machine::WriteResult;
 ghost use mathlib.Core.List.{[], _∷_};
 ghost use mathlib.Core.Path.{_≡_};
 ghost use Rattle.word.specs.Profile.{LP5523};
+ghost use Rattle.machine.specs.Reports.{writeReportOf};
 ghost use Rattle.machine.specs.Burst.{bytesWritten};
 
 // Refused, the chip is as it was.
 pub(super) fn write(chip: Chip, address: u16, byte: u8) -> WriteResult
-    ensures { λ r. ⌜ r ≡ bytesWritten LP5523 (record { address = address; byte = byte } ∷ []) chip ⌝ }
+    ensures { λ r. ⌜ writeReportOf r ≡ writeReportOf (bytesWritten LP5523 (record { address = address; byte = byte } ∷ []) chip) ⌝ }
 {
     let register = register_at(address);
     let outcome = judge(chip, register, byte);

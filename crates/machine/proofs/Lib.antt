@@ -3,6 +3,7 @@ pub mod Cases
 pub mod Common
 pub mod Frame
 pub mod Refusals
+pub mod Reports
 pub mod RowBits
 pub mod Run
 pub mod Answers

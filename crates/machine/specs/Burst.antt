@@ -36,7 +36,7 @@ isUnlisted Page = false
 isUnlisted (Memory k) = false
 isUnlisted Unlisted = true
 
--- 2: some address isn't listed.
+-- 2: "some address of the burst isn't listed above".
 abbrev pub someUnlisted : Profile → List Placed → Bool
 someUnlisted P [] = false
 someUnlisted P (b ∷ bs) = isUnlisted (registerAt P (b .address)) || someUnlisted P bs
@@ -53,10 +53,11 @@ bytesWritten P (b ∷ bs) m =
     let rest = bytesWritten P bs (stored P r (b .byte) m) in
     cond (succeeds o) rest (record { outcome = o; chip = m })
 
--- One refusal undoes all.
+-- "One refusal undoes all."
 abbrev pub undone : Chip → WriteResult → WriteResult
 undone m w = cond (succeeds (w .outcome)) w (record { outcome = w .outcome; chip = m })
 
+-- 1: "empty burst"; then 2; then the bytes in order.
 unfoldable pub burstOf : Profile → ℕ → List ℕ → Chip → WriteResult
 burstOf P a [] m = record { outcome = EmptyBurst; chip = m }
 burstOf P a (v ∷ vs) m =

@@ -1,9 +1,8 @@
--- Document 01's cases and easy errors as one table, words and beats together ("Proved together as a single table statement").
-use Prim.Native.Nat.{ℕ, zero, suc, _+_}
-use mathlib.Core.Bool.{true, false}
-use mathlib.Core.List.{List, [], _∷_, _++_, map}
-use mathlib.Core.Path.{_≡_}
-use lib.ListN.{getD, set, replicate}
+-- Document 01's cases and easy errors, and a line for each rule, as one table, words and beats together ("Proved together as a single table
+-- statement").
+use mathlib.Core.Bool.{true}
+use mathlib.Core.List.{List, [], _∷_, map}
+use lib.ListN.{replicate}
 use Rattle.word.specs.Profile.{LP5523}
 use Rattle.word.specs.Table.{encodeOf}
 use Rattle.word.specs.Decode.{decodeOf}
@@ -14,94 +13,15 @@ use Rattle.word.specs.declared.MuxAtOp.{MuxAtOp}
 use Rattle.word.specs.declared.MuxAtOp.the-variants.{MuxMapStart, MuxLdEnd, MuxLdStart, MuxLdAddr, MuxMapAddr}
 use Rattle.word.specs.declared.Word.the-variants.{Ramp, Wait, Set, MuxAt, MuxClr, MuxSel, Branch, End, Trigger, Undefined}
 use Rattle.plan.specs.Conditions.{successorsOf}
-use Rattle.machine.specs.declared.Mode.{Mode}
-use Rattle.machine.specs.declared.Mode.the-variants.{Disabled, Load, Run, Halt}
-use Rattle.machine.specs.declared.Exec.{Exec}
-use Rattle.machine.specs.declared.Exec.the-variants.{Hold, Free, Once}
-use Rattle.machine.specs.declared.Progress.the-variants.{BetweenWords}
-use Rattle.machine.specs.declared.Engine.{Engine}
-use Rattle.machine.specs.declared.Output.{Output}
+use Rattle.machine.specs.declared.Mode.the-variants.{Halt}
+use Rattle.machine.specs.declared.Exec.the-variants.{Hold, Free}
 use Rattle.machine.specs.declared.Chip.{Chip}
-use Rattle.machine.specs.Parts.{pointers, zeroEngine, engineAt, withMode, withExec, withPc, withMask, withPending, withFault, withLoops, withVariables, withOutputs}
-use Rattle.machine.specs.Outputs.{holder}
+use Rattle.machine.specs.Parts.{zeroEngine, withMode, withMask, withFault, withVariables}
 use Rattle.machine.specs.Turn.{addressOf}
-use Rattle.machine.specs.Burst.{burstOf}
-use Rattle.machine.specs.Theorems.{ticks, finishedIn}
 use Rattle.machine.specs.Examples.{runningFrom, enabledChip}
-
--- A line of the table: what the rules give, and what document 01 says that it is.
-infix 70 _is_
-pub data Case : Type 1 where
-  _is_ : {A : Type 0} → A → A → Case
-
-abbrev pub Holds : Case → Type 0
-Holds (x is y) = x ≡ y
-
-abbrev pub AllHold : List Case → Type 0
-AllHold [] = Unit {0}
-AllHold (l ∷ ls) = Holds l × AllHold ls
-
--- A memory with words from an address on.
-abbrev pub placed : List ℕ → ℕ → List ℕ → List ℕ
-placed memory a [] = memory
-placed memory a (w ∷ ws) = placed (set memory a w) (a + 1) ws
-
--- A memory that begins with these words.
-abbrev pub program : List ℕ → List ℕ
-program ws = placed (replicate 96 0) 0 ws
-
--- Engine 1 alone, on a memory that begins with these words; the others are disabled.
-abbrev pub engine1Alone : Engine → List ℕ → Chip
-engine1Alone e ws = enabledChip (program ws) (e ∷ zeroEngine LP5523 ∷ zeroEngine LP5523 ∷ [])
-
--- An engine in run mode from address 0 on: free, at a step under a run setting, or free with a mask.
-abbrev pub freeEngine : Engine
-freeEngine = runningFrom 0
-
-abbrev pub atStep : ℕ → Exec → Engine
-atStep s x = withPc (stepAt s) (withExec x freeEngine)
-
-abbrev pub masked : ℕ → Engine
-masked mask = withMask mask freeEngine
-
--- The chip with output D1 at a level.
-abbrev pub fromLevel : ℕ → Chip → Chip
-fromLevel n m = withOutputs (set (m .outputs) 0 (record { level = n })) m
-
--- The chip after n beats without a pulse, and what is to be seen of it.
-abbrev pub afterBeats : ℕ → Chip → Chip
-afterBeats n m = ticks LP5523 n m
-
-abbrev pub engine1 : Chip → Engine
-engine1 m = engineAt LP5523 m 0
-
-abbrev pub pcOf : Chip → ℕ
-pcOf m = engine1 m .pc .0
-
-abbrev pub levelsOf : Chip → List ℕ
-levelsOf m = map (λ (o : Output). o .level) (m .outputs)
-
-abbrev pub levelOf : Chip → ℕ
-levelOf m = getD (levelsOf m) 0 0
-
-abbrev pub pendingOf : Chip → List ℕ
-pendingOf m = map (λ (e : Engine). e .pending) (m .engines)
-
--- Who holds D1..D9 and the GPO; 0 is nobody.
-abbrev pub holdersOf : Chip → List ℕ
-holdersOf m = map (holder LP5523 (m .engines)) (0 ∷ 1 ∷ 2 ∷ 3 ∷ 4 ∷ 5 ∷ 6 ∷ 7 ∷ 8 ∷ 9 ∷ [])
-
--- The words that an engine, counted from 1, has finished after n beats.
-abbrev pub words1 : ℕ → Chip → ℕ
-words1 n m = finishedIn LP5523 0 n m
-
-abbrev pub words2 : ℕ → Chip → ℕ
-words2 n m = finishedIn LP5523 1 n m
-
--- Engine 1's PC after each of n beats.
-abbrev pub pcsOf : ℕ → Chip → List ℕ
-pcsOf zero m = []
-pcsOf (suc n) m = let m′ = afterBeats 1 m in pcOf m′ ∷ pcsOf n m′
+use Rattle.machine.specs.CaseTable.{Case, _is_, AllHold, joined, placed, program, engine1Alone, freeEngine, atStep, masked, fromLevel, afterBeats, engine1, levelsOf, levelOf, pendingOf, holdersOf, words1, words2, pcsOf, both}
+use Rattle.machine.specs.BeatRules.{turnRules, durationRules, variableRules, outputRules, triggerRules, outsideRules, runRules}
+use Rattle.machine.specs.RegisterRules.{registerRules, refusalRules}
 
 abbrev pub wordCases : List Case
 wordCases =
@@ -163,41 +83,6 @@ abbrev pub fromSeven : Chip
 fromSeven =
     enabledChip (placed (program (0x9D00 ∷ 0x4001 ∷ [])) 7 (0xA201 ∷ 0x40FF ∷ [])) (withMask 1 (runningFrom 7) ∷ zeroEngine LP5523 ∷ zeroEngine LP5523 ∷ [])
 
--- Engines 1 and 2, from addresses 0 and 8 on.
-abbrev pub both : List ℕ → List ℕ → Chip
-both ws vs = enabledChip (placed (program ws) 8 vs) (runningFrom 0 ∷ runningFrom 8 ∷ zeroEngine LP5523 ∷ [])
-
--- Engine 1 under once, at step 3, where this word stands; one beat later.
-abbrev pub onceAfter : ℕ → Engine
-onceAfter w = engine1 (afterBeats 1 (engine1Alone (atStep 3 Once) (0x9D00 ∷ 0x9D00 ∷ 0x9D00 ∷ w ∷ [])))
-
--- An engine in a mode, with every part of its state set.
-abbrev pub filledEngine : Mode → Engine
-filledEngine mode =
-    record {
-      mode = mode;
-      exec = Free;
-      start = addressAt 1;
-      pc = stepAt 2;
-      a = 3;
-      b = 4;
-      mask = 5;
-      table = pointers 6 7 8;
-      pending = 33;
-      interrupt = true;
-      fault = true;
-      progress = BetweenWords;
-      loops = replicate 96 9;
-    }
-
--- Engine 1 after a byte for register 01h.
-abbrev pub modesWritten : ℕ → Engine → Engine
-modesWritten v e = engine1 (burstOf LP5523 0x01 (v ∷ []) (engine1Alone e []) .chip)
-
--- A ramp up by B in parts of A beats (8401), from level 5.
-abbrev pub rampBy : ℕ → ℕ → Chip
-rampBy a b = fromLevel 5 (engine1Alone (withVariables a b (masked 1)) (0x8401 ∷ []))
-
 abbrev pub easyErrors : List Case
 easyErrors =
     -- "taking a branch step as an address": from start 7, step 1 is at address 8, and its word is done next
@@ -217,34 +102,15 @@ easyErrors =
     words2 1 (both (0xE004 ∷ []) (0xE080 ∷ [])) is 1 ∷
     -- "calling next after a loops=0 branch a successor": at address 5, with loops=0 and with loops=4
     successorsOf 0 5 (flowOf (decodeOf LP5523 0xA001)) is (1 ∷ []) ∷
-    successorsOf 0 5 (flowOf (decodeOf LP5523 0xA201)) is (1 ∷ 6 ∷ []) ∷
-    -- under once PC stays, and then the engine is held: rst, end with reset, a branch to step 1, a je that is taken and skips 2
-    onceAfter 0x0000 is atStep 3 Hold ∷
-    onceAfter 0xC800 is atStep 3 Hold ∷
-    onceAfter 0xA201 is withLoops (set (replicate 96 0) 3 4) (atStep 3 Hold) ∷
-    onceAfter 0x8E21 is atStep 3 Hold ∷
-    -- from disabled to load: PC, counts, pending triggers, fault flag and mask are cleared, and all else stays
-    modesWritten 0x10 (filledEngine Disabled) is
-    withPc (stepAt 0) (withLoops (replicate 96 0) (withPending 0 (withFault false (withMask 0 (filledEngine Load))))) ∷
-    -- but nothing from load to run, nor from disabled to run
-    modesWritten 0x20 (filledEngine Load) is filledEngine Run ∷
-    modesWritten 0x20 (filledEngine Disabled) is filledEngine Run ∷
-    -- a ramp down by 0 (0300) lasts as by 1, and moves nothing
-    levelOf (afterBeats 1 (fromLevel 5 (engine1Alone (masked 1) (0x0300 ∷ [])))) is 5 ∷
-    words1 1 (fromLevel 5 (engine1Alone (masked 1) (0x0300 ∷ []))) is 1 ∷
-    -- so does a ramp by a variable that is 0
-    levelOf (afterBeats 2 (rampBy 2 0)) is 5 ∷
-    words1 1 (rampBy 2 0) is 0 ∷
-    words1 2 (rampBy 2 0) is 1 ∷
-    -- a variable time 0 counts as 1
-    levelOf (afterBeats 1 (rampBy 0 1)) is 6 ∷
-    words1 1 (rampBy 0 1) is 1 ∷
-    -- and 32 as 31
-    words1 30 (rampBy 32 1) is 0 ∷
-    words1 31 (rampBy 32 1) is 1 ∷ []
+    successorsOf 0 5 (flowOf (decodeOf LP5523 0xA201)) is (1 ∷ 6 ∷ []) ∷ []
 
+-- All lines: document 01's cases, its easy errors, and a line for each rule.
 abbrev pub cases : List Case
-cases = wordCases ++ (beatCases ++ easyErrors)
+cases =
+    joined (
+    wordCases ∷ beatCases ∷ easyErrors ∷
+    turnRules ∷ durationRules ∷ variableRules ∷ outputRules ∷ triggerRules ∷ outsideRules ∷ runRules ∷
+    registerRules ∷ refusalRules ∷ [])
 
 abbrev pub CasesHold : Type 0
 CasesHold = AllHold cases

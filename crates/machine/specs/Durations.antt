@@ -14,7 +14,7 @@ use Rattle.machine.specs.WordEnd.{stepPc, ends, lasts, goesOn}
 abbrev pub beatsOf : ℕ → ℕ → ℕ
 beatsOf prescale time = cond (eqb prescale 1) (32 * time) time
 
--- A time that is read from a variable: 0 counts as 1, above 31 as 31 (HOUSE).
+-- A time that is read from a variable: "time 0 counts as 1 and above 31 as 31 (HOUSE)".
 abbrev pub clampTime : ℕ → ℕ
 clampTime t = max 1 (min t 31)
 

@@ -10,6 +10,7 @@ pub mod Words
 pub mod Turn
 pub mod Tick
 pub mod Outcome
+pub mod Reports
 pub mod Run
 pub mod Registers
 pub mod Judged
@@ -25,4 +26,7 @@ pub mod Refusals
 pub mod OwnBeats
 pub mod Theorems
 pub mod Examples
+pub mod CaseTable
+pub mod BeatRules
+pub mod RegisterRules
 pub mod Cases

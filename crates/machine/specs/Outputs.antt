@@ -20,7 +20,7 @@ use Rattle.machine.specs.Parts.{bit}
 abbrev pub rowBit : Profile → ℕ → ℕ
 rowBit P k = bitOfOutput (getD (outputNumbers P) k 17)
 
--- The mask that a row gives.
+-- The mask that a row gives: "other row bits are ignored".
 abbrev pub maskOf : Profile → ℕ → ℕ
 maskOf P row = bitAnd row (outputBits P)
 

@@ -25,12 +25,14 @@ registerAt LP5523 a =
     (cond (eqb a 0x4F) Page
     (cond (between 0x50 0x6F a) (Memory (a - 0x50)) Unlisted))))))
 
--- The two bits of engine i in a byte: 5:4, 3:2, 1:0 for engines 1..3.
+-- The two bits of engine i in a byte: "bits 5:4, 3:2, 1:0" for engines 1..3.
 abbrev pub pairOf : ℕ → ℕ → ℕ
 pairOf v i = v / 4 ^ (2 - i) % 4
 
+-- "00 hold, 01 step, 10 free, 11 once."
 abbrev pub execOf : ℕ → Exec
 execOf n = cond (eqb n 0) Hold (cond (eqb n 1) SingleStep (cond (eqb n 2) Free Once))
 
+-- "00 disabled, 01 load, 10 run, 11 halt."
 abbrev pub modeOf : ℕ → Mode
 modeOf n = cond (eqb n 0) Disabled (cond (eqb n 1) Load (cond (eqb n 2) Run Halt))

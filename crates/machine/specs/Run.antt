@@ -38,6 +38,7 @@ beatsMore P (suc n) r = let rest = beatsMore P n (oneMore P r) in cond (quiet (r
 abbrev pub beginning : Profile → Outcome → Chip → RunResult
 beginning P o m = record { outcome = o; chip = m; beats = 0; words = replicate (enginesOf P) 0 }
 
+-- 8: "beats above 1,000,000".
 abbrev pub mostBeats : ℕ
 mostBeats = 1000000
 

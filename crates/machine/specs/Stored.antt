@@ -29,7 +29,7 @@ enters P Load e = withMode Load (prepared P (e .mode) e)
 enters P Run e = withMode Run e
 enters P Halt e = withMode Halt (withProgress BetweenWords e)
 
--- A word with byte k of the page's bytes replaced: the high byte comes first.
+-- A word with byte k of the page's bytes replaced: "16 words of the page, high byte first".
 abbrev pub withByte : ℕ → ℕ → ℕ → ℕ
 withByte k v w = cond (eqb (k % 2) 0) (256 * v + w % 256) (256 * (w / 256) + v)
 
@@ -39,6 +39,7 @@ pageAddress page k = 16 * page + k / 2
 
 -- The chip with a byte stored in a register.
 abbrev pub stored : Profile → Register → ℕ → Chip → Chip
+-- "00h: bit 6 enable"; "clearing bit 6 of 00h only stops the beats": words in progress stay
 stored P Control v m = withEnabled (bit v 6) (withEngines (each (λ i e. withExec (execOf (pairOf v i)) e) 0 (m .engines)) m)
 stored P Modes v m = withEngines (each (λ i e. enters P (modeOf (pairOf v i)) e) 0 (m .engines)) m
 stored P (OutputLevel k) v m = withOutputs (set (m .outputs) k (record { level = v })) m

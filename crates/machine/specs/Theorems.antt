@@ -64,6 +64,8 @@ CheckedSafe = SequencesSafe (λ (P : Profile) (p : Plan) (image : List ℕ). che
 
 -- 2. The frame, on every chip: what engine i's turn leaves as it was. Of another engine that is all but its pending triggers, and so its A,
 -- B, PC and counts.
+-- "On every chip, each engine's turn in a beat leaves the others' own A and B, positions and loop counts, and every output it doesn't
+-- hold, unchanged"; "holding is judged as the turn begins".
 abbrev pub dark : Output
 dark = record { level = 0 }
 

@@ -15,7 +15,7 @@ use Rattle.machine.specs.WordEnd.{stepPc, ends, lasts}
 abbrev pub pinBit : ℕ
 pinBit = 32
 
--- One beat of a trigger word.
+-- One beat of a trigger word. Where all bits of w are pending, exclusive or clears them.
 unfoldable pub triggers : ℕ → Engine → ℕ → ℕ → BeatResult
 triggers c e w x =
     cond (eqb (bitAnd (e .pending) w) w)

@@ -44,6 +44,7 @@ midWord (Waiting n) = true
 midWord (Ramping d p l n) = true
 midWord (Triggering w x) = true
 
+-- "An engine acts if in run mode (10) and either mid-word or not held."
 abbrev pub acts : Engine → Bool
 acts e = isRun (e .mode) && (midWord (e .progress) || not (isHold (e .exec)))
 
@@ -55,7 +56,7 @@ fetches e = acts e && not (midWord (e .progress))
 abbrev pub addressOf : Address → Step → ℕ
 addressOf start pc = start .0 + pc .0
 
--- The engine as it fetches: past the memory's last word PC becomes 0 first.
+-- The engine as it fetches, at start+PC: "if that exceeds 95, PC becomes 0 first".
 abbrev pub returned : Profile → Engine → Engine
 returned P e = cond (ltb (addressOf (e .start) (e .pc)) (wordsOf P)) e (withPc (stepAt 0) e)
 

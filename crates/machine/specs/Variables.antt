@@ -19,6 +19,7 @@ use Rattle.machine.specs.WordEnd.{stepPc, goesOn}
 abbrev pub variable : ℕ → ℕ → Engine → ℕ → ℕ
 variable c d e v = cond (eqb v 0) (e .a) (cond (eqb v 1) (e .b) (cond (eqb v 2) c d))
 
+-- "add and sub wrap modulo 256 (HOUSE)."
 abbrev pub added : ℕ → ℕ → ℕ
 added x y = (x + y) % 256
 
@@ -39,13 +40,13 @@ combined SubVar x y = subtracted x y
 unfoldable pub assigns : ℕ → Engine → ℕ → ℕ → BeatResult
 assigns c e v x = goesOn (cond (eqb v 2) x c) (withVariables (cond (eqb v 0) x (e .a)) (cond (eqb v 1) x (e .b)) e)
 
--- Whether a jump is taken.
+-- Whether a jump is taken: "if left differs, is less, is at least, or equals right".
 abbrev pub jumps : JumpOp → ℕ → ℕ → Bool
 jumps Jne x y = not (eqb x y)
 jumps Jl x y = ltb x y
 jumps Jge x y = leb y x
 jumps Je x y = eqb x y
 
--- PC after a jump.
+-- PC after a jump: it "moves by 1+skip, else by 1".
 abbrev pub jumpTo : Step → Bool → ℕ → Step
 jumpTo pc taken skip = stepPc pc (cond taken (1 + skip) 1)

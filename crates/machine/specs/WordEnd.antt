@@ -25,7 +25,7 @@ pcAfter SingleStep old new = new
 pcAfter Free old new = new
 pcAfter Once old new = old
 
--- The run setting after a word.
+-- The run setting after a word: "Settings 01 and 11 then become 00".
 abbrev pub execAfter : Exec → Exec
 execAfter Hold = Hold
 execAfter SingleStep = Hold

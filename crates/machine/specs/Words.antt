@@ -40,22 +40,27 @@ faults c e = record { own = withMode Halt (withFault true e); c = c; effect = Ke
 -- The first beat of a word that engine e has fetched at address a. A word sees its engine, C, D, and the memory for its rows, and nothing
 -- else of the chip.
 unfoldable pub begins : Profile → ℕ → ℕ → List ℕ → Engine → ℕ → Word → BeatResult
+-- "rst: PC 0, own counts 0."
 begins P c d memory e a Rst = ends c (withLoops (zeroCounts P) e) Keep 0 (stepAt 0)
 begins P c d memory e a (Ramp p t dir n) = rampsFrom c e dir (beatsOf p t) n
 begins P c d memory e a (Wait p t) = waits c e (beatsOf p t)
 begins P c d memory e a (Set n) = ends c e (Put n) 0 (stepPc (e .pc) 1)
+-- "Variable ramps read both values at the fetch."
 begins P c d memory e a (RampVar p dir l r) = rampsFrom c e dir (beatsOf p (clampTime (variable c d e l))) (variable c d e r)
 begins P c d memory e a (SetVar v) = ends c e (Put (variable c d e v)) 0 (stepPc (e .pc) 1)
+-- a branch whose c is a variable's value
 begins P c d memory e a (BranchVar v s) = branches c e a (variable c d e v) s
 begins P c d memory e a (Jump op k l r) = ends c e Keep 0 (jumpTo (e .pc) (jumps op (variable c d e l) (variable c d e r)) k)
 begins P c d memory e a (Arith op v n) = assigns c e v (computed op (variable c d e v) n)
 begins P c d memory e a (ArithVar op v l r) = assigns c e v (combined op (variable c d e l) (variable c d e r))
 begins P c d memory e a (MuxAt op x) = points P c memory e (mapsAt op) (pointed P (useAt op x) (e .table))
+-- mux-clr and mux-sel: no output, and output k, is asked for
 begins P c d memory e a MuxClr = goesOn c (withMask 0 e)
 begins P c d memory e a (MuxSel k) = goesOn c (withMask (maskOfOutput k) e)
 begins P c d memory e a (MuxMove op) = points P c memory e (mapsMove op) (pointed P (useMove op) (e .table))
 begins P c d memory e a (Branch n s) = branches c e a n s
 begins P c d memory e a (End i z) = stops P c e (eqb i 1) (eqb z 1)
+-- "int raises the flag."
 begins P c d memory e a Int = goesOn c (withInterrupt true e)
 begins P c d memory e a (Trigger w x) = triggers c e w x
 begins P c d memory e a Undefined = faults c e

@@ -1,5 +1,6 @@
 // What the chip is: its state, and what its calls answer. The rules are definitions in specs/, in
-// document 01's order; the theorems about them are stated in specs/Theorems.antt.
+// document 01's order, except that definitions precede their use; the theorems about them are
+// stated in specs/Theorems.antt.
 use word::Address;
 use word::Direction;
 use word::Step;

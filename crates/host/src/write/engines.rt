@@ -7,10 +7,10 @@ use machine::Mode;
 ghost use mathlib.Core.Bool.{_&&_};
 ghost use mathlib.Core.Path.{_≡_};
 ghost use Prim.Native.Nat.{_<_};
-ghost use Rattle.machine.specs.Turn.{midWord};
-ghost use Rattle.machine.specs.Tick.{some, isLoad, loads};
+ghost use Rattle.machine.specs.Tick.{some, isLoad};
 ghost use Rattle.machine.specs.Registers.{pairOf, modeOf};
 ghost use Rattle.machine.specs.Judged.{inUse, loadRefused, memoryInUse};
+ghost use Rattle.host.specs.internal.Asked.{isSo};
 
 // In run or halt.
 pub(super) fn in_use(mode: Mode) -> bool
@@ -52,48 +52,48 @@ pub(super) fn load_refused(engines: [Engine; 3], byte: u8) -> bool
     refuses_load(three, byte, 2)
 }
 
-fn some_loads(engines: [Engine; 3]) -> bool
-    ensures { λ r. ⌜ r ≡ some loads engines ⌝ }
-{
-    let one = engines[0];
-    let first = one.mode;
-    if is_load(first) {
-        return true;
-    }
-    let two = engines[1];
-    let second = two.mode;
-    if is_load(second) {
-        return true;
-    }
-    let three = engines[2];
-    let third = three.mode;
-    is_load(third)
+// What 6 asks of each engine.
+enum Asked {
+    Loads,
+    MidWord,
 }
 
-fn some_mid_word(engines: [Engine; 3]) -> bool
-    ensures { λ r. ⌜ r ≡ some (λ e. midWord (e .progress)) engines ⌝ }
+fn is_so(e: Engine, asked: Asked) -> bool
+    ensures { λ r. ⌜ r ≡ isSo asked e ⌝ }
+{
+    match asked {
+        Asked::Loads => {
+            let mode = e.mode;
+            is_load(mode)
+        }
+        Asked::MidWord => {
+            let progress = e.progress;
+            mid_word(progress)
+        }
+    }
+}
+
+fn some_engine(engines: [Engine; 3], asked: Asked) -> bool
+    ensures { λ r. ⌜ r ≡ some (isSo asked) engines ⌝ }
 {
     let one = engines[0];
-    let first = one.progress;
-    if mid_word(first) {
+    if is_so(one, asked) {
         return true;
     }
     let two = engines[1];
-    let second = two.progress;
-    if mid_word(second) {
+    if is_so(two, asked) {
         return true;
     }
     let three = engines[2];
-    let third = three.progress;
-    mid_word(third)
+    is_so(three, asked)
 }
 
 // 6
 pub(super) fn memory_in_use(engines: [Engine; 3]) -> bool
     ensures { λ r. ⌜ r ≡ memoryInUse engines ⌝ }
 {
-    if !some_loads(engines) {
+    if !some_engine(engines, Asked::Loads) {
         return true;
     }
-    some_mid_word(engines)
+    some_engine(engines, Asked::MidWord)
 }

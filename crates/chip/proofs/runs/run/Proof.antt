@@ -3,6 +3,7 @@ use mathlib.Core.Path.{sym, _∙_, ap}
 use native.Mathlib.Omega.{arith}
 use borrow.Author.Needs.{needs}
 use Rattle.word.specs.Profile.{LP5523}
+use Rattle.machine.specs.Reports.{runReportOf}
 use Rattle.machine.proofs.Theorems.{refused-run}
 use Rattle.beats.specs.declared.Span.{Span}
 use Rattle.beats.proofs.SpanOf.{run-of-span}
@@ -10,10 +11,10 @@ use Rattle.chip.proofs.runs.run.Statement.{statement}
 use Rattle.chip.proofs.runs.run.Tie as tie
 
 returns : tie.Need-returns
-returns c = sym (refused-run LP5523 _ _ (omega (arith, c .if1 .taken)))
+returns c = ap runReportOf (sym (refused-run LP5523 _ _ (omega (arith, c .if1 .taken))))
 
 returns-2 : tie.Need-returns-2
-returns-2 c = ap (λ (s : Span). s .ran) (c .before .run-beats .ensures) ∙ run-of-span _ _ (omega (arith, c .before .before .if1 .left))
+returns-2 c = ap (λ (s : Span). runReportOf (s .ran)) (c .before .run-beats .ensures) ∙ ap runReportOf (run-of-span _ _ (omega (arith, c .before .before .if1 .left)))
 
 pub run-spec : {M : Type 1} → statement M
 run-spec = tie.close (tie.spec returns (search needs) returns-2)

@@ -1,7 +1,8 @@
 -- `host::write::write` meets its contract.
-use mathlib.Core.Path.{sym, subst, _∙_}
+use mathlib.Core.Path.{sym, ap, subst, _∙_}
 use borrow.Author.Needs.{needs}
 use borrow.Author.Tests.{not-true, not-false}
+use Rattle.machine.specs.Reports.{writeReportOf}
 use Rattle.host.specs.internal.Places.{Exists}
 use Rattle.host.proofs.Addresses.{exists-at}
 use Rattle.host.proofs.Single.{one-refused, one-stored}
@@ -17,8 +18,8 @@ write-spec =
     (search needs)
     (λ c.
     let c2 = c .before .before in let c3 = c2 .before in
-    one-refused _ _ _ (c3 .register-at .ensures) (c2 .judge .ensures) (sym (c .before .is-success .ensures) ∙ not-true _ (c .if1 .taken)))
+    ap writeReportOf (one-refused _ _ _ (c3 .register-at .ensures) (c2 .judge .ensures) (sym (c .before .is-success .ensures) ∙ not-true _ (c .if1 .taken))))
     (λ c κs. subst Exists (sym (c .before .before .before .register-at .ensures)) (exists-at _))
     (λ c.
     let c2 = c .before .before in let c4 = c2 .before .before in
-    one-stored _ _ _ (c4 .register-at .ensures) (c2 .before .judge .ensures) (sym (c2 .is-success .ensures) ∙ not-false _ (c .before .if1 .left)) (c .store .ensures)))
+    ap writeReportOf (one-stored _ _ _ (c4 .register-at .ensures) (c2 .before .judge .ensures) (sym (c2 .is-success .ensures) ∙ not-false _ (c .before .if1 .left)) (c .store .ensures))))
