@@ -11,7 +11,7 @@ use Rattle.plan.specs.Ranges.{planAt, InCode}
 use Rattle.plan.specs.Conditions.{Condition}
 use Rattle.word.specs.Steps.{addressAt}
 use Rattle.asm.specs.declared.Disassembled.the-variants.{Length}
-use Rattle.asm.specs.Places.{lineKindAt, encodingOf}
+use Rattle.asm.specs.Places.{lineKindAt, lineOf}
 use Rattle.asm.specs.Reading.{program, refused-at, readSheet, assembleOf}
 use Rattle.asm.specs.Writing.{sheetOf, disassembleOf}
 use Rattle.asm.specs.Conditions.{cut, linesOf, planSaid, wordLineNumber, numberAt, FirstBad, lineCount, GoodTo, GoodLines, PlanValid, PlanDisjoint}
@@ -52,13 +52,13 @@ pub record Sound (P : Profile) (p : Plan) (image : List ℕ) : Type 0 where
 abbrev pub ReadsSound : Type 0
 ReadsSound = (P : Profile) (text image : List ℕ) (p : Plan) (words : ℕ) → assembleOf P words text ≡ program p image → Sound P p image
 
--- The word with address a stands in line encodingOf P a, which has place enginesOf P + a, counted from 0: the reader judges that line by what
+-- The word with address a stands in line lineOf P a, which has place enginesOf P + a, counted from 0: the reader judges that line by what
 -- stands at a, and refuses it by that line's number where it is the first bad one.
 pub record WordInLine (P : Profile) (text : List ℕ) (a : ℕ) : Type 0 where
   pub judged :
       numberAt P (linesOf text) (enginesOf P + a)
       ≡ wordLineNumber P (lineKindAt P (planSaid P (linesOf text)) a) (getD (linesOf text) (enginesOf P + a) (cut []))
-  pub refused : (n : ℕ) → (readSheet P text ≡ refused-at n (encodingOf P a)) ↔ FirstBad P (linesOf text) (enginesOf P + a) n
+  pub refused : (n : ℕ) → (readSheet P text ≡ refused-at n (lineOf P a)) ↔ FirstBad P (linesOf text) (enginesOf P + a) n
 
 abbrev pub WordsInLines : Type 0
 WordsInLines = (P : Profile) (text : List ℕ) (a : ℕ) → WordInLine P text a
