@@ -14,7 +14,7 @@ use Rattle.plan.specs.declared.Verdict.the-variants.{Accept, WrongLength, Inval
 use Rattle.plan.specs.Verdict.{reportOf}
 use Rattle.plan.specs.Check.{checkRangesOf}
 use Rattle.asm.specs.Reading.{ranged}
-use Rattle.asm.proofs.Ranges.{Ranged, fine, unordered, meeting, ranged-cases}
+use Rattle.asm.proofs.Ranges.{Ranged, fine, not-valid, not-disjoint, ranged-cases}
 use Rattle.assembler.proofs.assembler.judged.Statement.{statement}
 use Rattle.assembler.proofs.assembler.judged.Tie as tie
 
@@ -39,8 +39,8 @@ nothing p v e h = go (ranged-cases LP5523 p) (subst (λ (x : Verdict). (reportOf
   where
     go : {n : ℕ} → Ranged LP5523 p n → (n ≡ 11 → ⊥) × (n ≡ 12 → ⊥) → 0 ≡ n
     go (fine o a q) h = sym q
-    go (unordered o q) h = absurd (h .0 q)
-    go (meeting o a q) h = absurd (h .1 q)
+    go (not-valid o q) h = absurd (h .0 q)
+    go (not-disjoint o a q) h = absurd (h .1 q)
 
 returns : tie.Need-returns
 returns c ws =
