@@ -74,7 +74,7 @@ pub record FirstObjection (P : Profile) (p : Plan) (image : List ℕ) (v : Verdi
   pub earlier : AllOf (Condition P p image) before
   pub fails : Condition P p image v → ⊥
 
--- 5. The writer's answers: it writes exactly where 9, 11, 12 and 13 are met and there is room; else it reports the first of these that is
+-- The writer's answers: it writes exactly where 9, 11, 12 and 13 are met and there is room; else it reports the first of these that is
 -- not, or 24 where only room is missing; and it gives no other answer.
 pub record Writes (P : Profile) (p : Plan) (image : List ℕ) (room : ℕ) : Type 0 where
   pub isWritten : (n : ℕ) → (disassembleOf P p image room ≡ wrote n) ↔ (Sound P p image × (length (sheetOf P p image) ≡ n) × (n ≤ room))
