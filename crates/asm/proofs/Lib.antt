@@ -17,3 +17,4 @@ pub mod Outcome
 pub mod Exactly
 pub mod Writes
 pub mod WordLines
+pub mod Cases

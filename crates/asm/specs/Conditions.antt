@@ -28,6 +28,10 @@ pub data Line : Type 0 where
   whole : List ℕ → Line
   cut : List ℕ → Line
 
+abbrev pub bytesIn : Line → List ℕ
+bytesIn (whole line) = line
+bytesIn (cut line) = line
+
 -- What stands after the last LF: no line where it is nothing.
 abbrev pub lastLine : List ℕ → List Line
 lastLine [] = []
@@ -49,8 +53,7 @@ planIn (refused k) = Unused
 abbrev pub plansIn : Profile → ℕ → ℕ → List Line → List EnginePlan
 plansIn P zero i ls = []
 plansIn P (suc n) i [] = []
-plansIn P (suc n) i (whole p ∷ ls) = planIn (readLine P (kind.Plan i) p) ∷ plansIn P n (i + 1) ls
-plansIn P (suc n) i (cut p ∷ ls) = planIn (readLine P (kind.Plan i) p) ∷ plansIn P n (i + 1) ls
+plansIn P (suc n) i (l ∷ ls) = planIn (readLine P (kind.Plan i) (bytesIn l)) ∷ plansIn P n (i + 1) ls
 
 abbrev pub planSaid : Profile → List Line → Plan
 planSaid P ls = planOf P (plansIn P (enginesOf P) 1 ls)

@@ -15,3 +15,4 @@ pub mod Spots
 pub mod Conform
 pub mod Exactly
 pub mod Ranges
+pub mod Walk

@@ -5,3 +5,4 @@ pub mod Numbers
 pub mod Numerals
 pub mod Puts
 pub mod Theorems
+pub mod Cases

@@ -8,7 +8,7 @@ use Rattle.grammar.specs.declared.Value.{Value}
 use Rattle.grammar.specs.declared.LineRead.{LineRead}
 use Rattle.grammar.specs.Values.{lineReadOf}
 use Rattle.grammar.specs.internal.Tables.{partsFrom, beforeRead, stoppedBy}
-use Rattle.line_reader.proofs.Walk.{read-before}
+use Rattle.grammar.proofs.Walk.{read-before}
 use Rattle.line_reader.proofs.shapes.stopped.Statement.{statement}
 use Rattle.line_reader.proofs.shapes.stopped.Tie as tie
 
