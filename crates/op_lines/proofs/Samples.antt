@@ -2,15 +2,15 @@
 use mathlib.Core.List.{List, [], _∷_, map}
 use mathlib.Core.Path.{_≡_, refl, ap}
 use lib.ListN.{getD, drop}
-use Rattle.text.specs.Bytes.{same, lacks, grow, split, valueOf, isKeyword}
+use Rattle.text.specs.Bytes.{same, lacks, indexOf, grow, split, valueOf, isKeyword, isPair}
 use Rattle.text.specs.Number.{isDigit, allDigits, numberFrom, isNumber, readNumber}
 use Rattle.word.specs.Profile.{LP5523}
 use Rattle.word.specs.Answer.{Answer, success}
 use Rattle.word.specs.Field.{inside}
-use Rattle.grammar.specs.Form.{placeOf, readKeyword, held, readValue, readPair, before, atEnd, followed, readForm}
+use Rattle.grammar.specs.Form.{placeOf, readKeyword, held, readValue, readPair, before, allPairs, unknown, atEnd, followed, readForm}
 use Rattle.grammar.specs.Grammar.{opNames, opForm, named, readOp, readParts, readLine}
 use Rattle.op_lines.specs.Lines.{assembleLineOf}
-use Rattle.op_lines.specs.Theorems.{Sample, largest, distinct, BothWays, SamplesCorrespond}
+use Rattle.op_lines.specs.Theorems.{Sample, largest, distinct, BothWays, SamplesCorrespond, SamplesRefused, AnswersNumbered}
 use Rattle.op_lines.proofs.Theorems.{line-again}
 
 abbrev read : Sample → Answer
@@ -36,3 +36,10 @@ both-ways (s ∷ ss) e =
 
 pub samples-correspond : SamplesCorrespond
 samples-correspond = (both-ways largest largest-read, both-ways distinct distinct-read)
+
+pub samples-refused : SamplesRefused
+unfolding assembleLineOf readLine readParts readOp named opNames opForm readForm followed atEnd before unknown allPairs readPair readValue held readKeyword placeOf same lacks indexOf grow split valueOf isKeyword isPair isDigit allDigits numberFrom isNumber readNumber inside
+samples-refused = refl
+
+pub answers-numbered : AnswersNumbered
+answers-numbered = (refl, refl, refl)

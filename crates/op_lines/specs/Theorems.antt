@@ -1,20 +1,23 @@
--- What is promised of op lines. The proofs are in proofs/Theorems.antt, that of `SamplesCorrespond` in proofs/Samples.antt.
+-- What is promised of op lines. The proofs are in proofs/Theorems.antt, those of the samples in proofs/Samples.antt.
 use Prim.Native.Nat.{ℕ}
 use Prim.Native.String.{String}
-use mathlib.Core.List.{List, [], _∷_}
+use mathlib.Core.List.{List, [], _∷_, map}
 use mathlib.Core.Logic.{_↔_, _⊎_}
 use mathlib.Core.Path.{_≡_}
 use Rattle.text.specs.Bytes.{ascii, space, split}
 use Rattle.word.specs.Profile.{Profile, LP5523}
-use Rattle.word.specs.Answer.{success}
+use Rattle.word.specs.Answer.{success, refusal}
 use Rattle.word.specs.Decode.{decodeOf}
 use Rattle.word.specs.declared.Word.{Word}
-use Rattle.word.specs.declared.Word.the-variants.{Undefined}
+use Rattle.word.specs.declared.Word.the-variants as word
 use Rattle.grammar.specs.declared.LineKind.the-variants.{Op}
 use Rattle.grammar.specs.Conditions.{LineWellFormed, LineUnknown, LineOutside}
 use Rattle.op_lines.specs.Words.{wordOf}
 use Rattle.op_lines.specs.Values.{opValues}
-use Rattle.op_lines.specs.Lines.{assembleLineOf, opLineOf}
+use Rattle.op_lines.specs.declared.WordLine.the-variants.{Code, Malformed, UnknownOp, OutsideField}
+use Rattle.op_lines.specs.declared.WordWritten.{WordWritten}
+use Rattle.op_lines.specs.declared.WordWritten.the-variants.{Length, UndefinedWord, TooShort}
+use Rattle.op_lines.specs.Lines.{assembleLineOf, opLineOf, answerOf, writtenOf}
 
 -- The values of a word's line stand for the word.
 abbrev pub WordAgain : Type 0
@@ -26,11 +29,11 @@ LineAgain = (P : Profile) (line : List ℕ) (w : ℕ) → assembleLineOf P line 
 
 -- A defined code is written as a line that is read as the same code.
 abbrev pub CodeAgain : Type 0
-CodeAgain = (P : Profile) (w : ℕ) → (decodeOf P w ≡ Undefined → ⊥) → assembleLineOf P (opLineOf P w) ≡ success w
+CodeAgain = (P : Profile) (w : ℕ) → (decodeOf P w ≡ word.Undefined → ⊥) → assembleLineOf P (opLineOf P w) ≡ success w
 
 -- Only defined words are read.
 abbrev pub ReadsDefined : Type 0
-ReadsDefined = (P : Profile) (line : List ℕ) (w : ℕ) → assembleLineOf P line ≡ success w → decodeOf P w ≡ Undefined → ⊥
+ReadsDefined = (P : Profile) (line : List ℕ) (w : ℕ) → assembleLineOf P line ≡ success w → decodeOf P w ≡ word.Undefined → ⊥
 
 -- "A ramp line up by 0", by the parts of the line: op=ramp, two parts, dir=up, count=0.
 abbrev pub UpByZero : List (List ℕ) → Type 0
@@ -129,3 +132,39 @@ BothWays (s ∷ ss) = (assembleLineOf LP5523 (s .text) ≡ success (s .code)) ×
 
 abbrev pub SamplesCorrespond : Type 0
 SamplesCorrespond = BothWays largest × BothWays distinct
+
+-- Lines that are refused, each with its number: "Edges: count=255 and 256, address=95 and 96".
+abbrev pub refusedLines : List Sample
+refusedLines =
+    20 is "" ∷
+    20 is "op=" ∷
+    20 is "set value=1" ∷
+    20 is "op=set" ∷
+    20 is "op=set  value=1" ∷
+    20 is "op=set value=01" ∷
+    20 is "op=set value=1 time=1" ∷
+    20 is "op=wait time=1 prescale=0" ∷
+    20 is "op=ramp prescale=2 time=1 dir=up count=x" ∷
+    20 is "op=sett value" ∷
+    21 is "op=sett value=256" ∷
+    22 is "op=set value=256" ∷
+    22 is "op=ramp prescale=0 time=32 dir=up count=255" ∷
+    22 is "op=ramp prescale=0 time=31 dir=left count=255" ∷
+    22 is "op=ramp prescale=0 time=31 dir=up count=256" ∷
+    22 is "op=ramp prescale=0 time=31 dir=up count=0" ∷
+    22 is "op=wait prescale=0 time=0" ∷
+    22 is "op=mux-map-start address=96" ∷
+    22 is "op=mux-sel output=10" ∷
+    22 is "op=ld to=D value=1" ∷
+    22 is "op=trigger wait=8 send=1" ∷
+    22 is "op=branch loops=64 step=4294967297" ∷ []
+
+abbrev pub SamplesRefused : Type 0
+SamplesRefused = map (λ (s : Sample). assembleLineOf LP5523 (s .text) .number) refusedLines ≡ map (λ (s : Sample). s .code) refusedLines
+
+-- The number and the values of every answer.
+abbrev pub AnswersNumbered : Type 0
+AnswersNumbered =
+    (map answerOf (Code 0x40FF ∷ Malformed ∷ UnknownOp ∷ OutsideField ∷ []) ≡ success 0x40FF ∷ refusal 20 ∷ refusal 21 ∷ refusal 22 ∷ [])
+    × (map (λ (r : WordWritten). writtenOf r .number) (Length 16 ∷ UndefinedWord ∷ TooShort ∷ []) ≡ 0 ∷ 13 ∷ 24 ∷ [])
+    × (map (λ (r : WordWritten). writtenOf r .size) (Length 16 ∷ UndefinedWord ∷ TooShort ∷ []) ≡ 16 ∷ 0 ∷ 0 ∷ [])
