@@ -16,3 +16,4 @@ pub mod Conform
 pub mod Exactly
 pub mod Ranges
 pub mod Walk
+pub mod Cases
