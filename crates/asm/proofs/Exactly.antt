@@ -2,18 +2,20 @@
 -- of its outcomes can hold together.
 use Prim.Native.Nat.{ℕ, _+_, _<_}
 use mathlib.Core.List.{List}
-use mathlib.Core.Logic.{_⊎_, inl, inr}
-use mathlib.Core.Path.{_≡_, sym, ap, ap₂, subst, _∙_}
+use mathlib.Core.Logic.{_↔_, _⊎_, inl, inr}
+use mathlib.Core.Path.{_≡_, refl, sym, ap, ap₂, subst, _∙_}
 use native.Mathlib.Omega.{arith}
 use lib.ListN.{length}
-use lib.Dec.{ltb}
-use borrow.Author.Tests.{ltb-true, ltb-false}
+use lib.Dec.{eqb, ltb}
+use borrow.Author.Tests.{ltb-true, ltb-false, eqb-true, eqb-false, eq-eqb, ne-eqb}
 use Rattle.laws.proofs.Tests.{by-test}
-use Rattle.word.specs.Profile.{Profile}
-use Rattle.asm.specs.Reading.{Sheet, refused-at, readSheet}
-use Rattle.asm.specs.Theorems.{RefusesExactly}
-use Rattle.asm.specs.Conditions.{Line, linesOf, planSaid, numberAt, lineCount, GoodTo, FirstBad, GoodLines, PlanValid, PlanDisjoint}
+use Rattle.word.specs.Profile.{Profile, wordsOf}
+use Rattle.plan.specs.declared.Plan.{Plan}
+use Rattle.asm.specs.Reading.{Sheet, program, refused-at, readSheet, assembleOf}
+use Rattle.asm.specs.Theorems.{Exactly, RefusesExactly}
+use Rattle.asm.specs.Conditions.{Line, linesOf, planSaid, lineCount, GoodTo, FirstBad, GoodLines, PlanValid, PlanDisjoint}
 use Rattle.asm.specs.Answers.{numberIn, lineIn}
+use Rattle.asm.proofs.LineNumbers.{numberAt, bad-at}
 use Rattle.asm.proofs.Steps.{never}
 use Rattle.asm.proofs.Outcome.{Outcome, bad, miscounted, invalid-range, code-overlaps-table, is-read, sheet-outcome}
 
@@ -27,10 +29,10 @@ other-line e f d = d (ap lineIn (sym e ∙ f))
 module _ (P : Profile) (ls : List Line) where
   -- a bad line is the first only where no other is, and not where all are good
   none-earlier : (k n j m : ℕ) → FirstBad P ls k n → FirstBad P ls j m → k < j → ⊥
-  none-earlier k n j m f g l = f .refusal (sym (f .bad) ∙ g .before k l (f .there))
+  none-earlier k n j m f g l = g .before k n l (f .there) (f .bad)
 
   spoiled : (k n : ℕ) → FirstBad P ls k n → GoodTo P ls (lineCount P) → ⊥
-  spoiled k n f g = f .refusal (sym (f .bad) ∙ g k (f .among) (f .there))
+  spoiled k n f g = g k n (f .among) (f .there) (f .bad)
 
   same-line : (k n j m : ℕ) → FirstBad P ls k n → FirstBad P ls j m → k ≡ j
   same-line k n j m f g =
@@ -55,7 +57,7 @@ module _ (P : Profile) (ls : List Line) where
     line-given : (k n : ℕ) → Outcome P ls r → FirstBad P ls k n → r ≡ refused-at n (k + 1)
     line-given k n (bad j m f e) h =
         let z = same-line j m k n f h in
-        e ∙ ap₂ (λ (x i : ℕ). refused-at x (i + 1)) (sym (f .bad) ∙ ap (numberAt P ls) z ∙ h .bad) z
+        e ∙ ap₂ (λ (x i : ℕ). refused-at x (i + 1)) (sym (bad-at P ls j m .0 (f .bad) .0) ∙ ap (numberAt P ls) z ∙ bad-at P ls k n .0 (h .bad) .0) z
     line-given k n (miscounted g d e) h = absurd (spoiled k n h g)
     line-given k n (invalid-range g o e) h = absurd (spoiled k n h (g .0))
     line-given k n (code-overlaps-table g o m e) h = absurd (spoiled k n h (g .0))
@@ -120,15 +122,65 @@ module _ (P : Profile) (ls : List Line) where
     others-told n (code-overlaps-table g o m e) h = inr (inr (ap numberIn (sym h ∙ e)))
     others-told n (is-read g o m p ws e) h = absurd (never (sym h ∙ e))
 
+    -- what is read
+    read-told : Outcome P ls r → (p : Plan) (image : List ℕ) → r ≡ program p image
+        → GoodLines P ls × PlanValid P (planSaid P ls) × PlanDisjoint P (planSaid P ls)
+    read-told (bad j m f e) p image h = absurd (never (sym e ∙ h))
+    read-told (miscounted g d e) p image h = absurd (never (sym e ∙ h))
+    read-told (invalid-range g o e) p image h = absurd (never (sym e ∙ h))
+    read-told (code-overlaps-table g o m e) p image h = absurd (never (sym e ∙ h))
+    read-told (is-read g o m q ws e) p image h = (g, o, m)
+
+-- 9 is judged first: with as many words as the chip has, the answer is the sheet's
+module _ (P : Profile) (words : ℕ) (text : List ℕ) where
+  lent : words ≡ wordsOf P → assembleOf P words text ≡ readSheet P text
+  unfolding assembleOf
+  lent e = rw (eq-eqb words (wordsOf P) e)
+
+  not-lent : (words ≡ wordsOf P → ⊥) → assembleOf P words text ≡ refused-at 9 0
+  unfolding assembleOf
+  not-lent d = rw (ne-eqb words (wordsOf P) d)
+
+  abbrev ls : List Line
+  ls = linesOf text
+
+  abbrev r : Sheet
+  r = readSheet P text
+
+  -- an answer that is not 9's
+  beside : {s : Sheet} {C : Type 0} → (r ≡ s → C) → (C → r ≡ s) → (refused-at 9 0 ≡ s → ⊥) → (assembleOf P words text ≡ s) ↔ ((words ≡ wordsOf P) × C)
+  beside {s} f g d = (
+    λ e.
+        by-test (eqb words (wordsOf P))
+        (λ h. let z = eqb-true words (wordsOf P) h in (z, f (sym (lent z) ∙ e)))
+        (λ h. absurd (d (sym (not-lent (eqb-false words (wordsOf P) h)) ∙ e))),
+    λ c. lent (c .0) ∙ g (c .1),
+  )
+
+  -- no sheet is refused with 9
+  not-nine : (n : ℕ) → (n ≡ 23) ⊎ ((n ≡ 11) ⊎ (n ≡ 12)) → n ≡ 9 → ⊥
+  not-nine n (inl a) z = omega arith
+  not-nine n (inr (inl a)) z = omega arith
+  not-nine n (inr (inr a)) z = omega arith
+
+  pub exact : Exactly P words text
+  exact =
+      let o = sheet-outcome P text in
+      record {
+        isRead = λ p image e.
+            by-test (eqb words (wordsOf P))
+            (λ h. let z = eqb-true words (wordsOf P) h in (z, read-told P ls r o p image (sym (lent z) ∙ e)))
+            (λ h. absurd (never (sym (not-lent (eqb-false words (wordsOf P) h)) ∙ e)));
+        is9 = (λ e z. not-nine 9 (others-told P ls r 9 o (sym (lent z) ∙ e)) refl, not-lent);
+        line = λ k n. beside (line-told P ls r k n o) (line-given P ls r k n o) (λ e. let z = ap lineIn e in omega arith);
+        is23 = beside (count-told P ls r o) (count-given P ls r o) (λ e. let z = ap numberIn e in omega arith);
+        is11 = beside (invalid-told P ls r o) (invalid-given P ls r o) (λ e. let z = ap numberIn e in omega arith);
+        is12 = beside (overlap-told P ls r o) (overlap-given P ls r o) (λ e. let z = ap numberIn e in omega arith);
+        others = λ n e.
+            by-test (eqb words (wordsOf P))
+            (λ h. inr (others-told P ls r n o (sym (lent (eqb-true words (wordsOf P) h)) ∙ e)))
+            (λ h. inl (ap numberIn (sym e ∙ not-lent (eqb-false words (wordsOf P) h))));
+      }
+
 pub refuses-exactly : RefusesExactly
-refuses-exactly P text =
-    let ls = linesOf text in
-    let r = readSheet P text in
-    let o = sheet-outcome P text in
-    record {
-      line = λ k n. (line-told P ls r k n o, line-given P ls r k n o);
-      is23 = (count-told P ls r o, count-given P ls r o);
-      is11 = (invalid-told P ls r o, invalid-given P ls r o);
-      is12 = (overlap-told P ls r o, overlap-given P ls r o);
-      others = λ n. others-told P ls r n o;
-    }
+refuses-exactly P words text = exact P words text

@@ -8,7 +8,7 @@ use native.Mathlib.Omega.{arith}
 use borrow.Author.Tests.{leb-true, le-leb, ltb-true, eqb-true, eqb-false}
 use lib.Dec.{leb, ltb, eqb}
 use Rattle.laws.proofs.Tests.{by-test}
-use Rattle.word.specs.Field.{inside, upto}
+use Rattle.word.specs.Field.{inside}
 use Rattle.word.specs.Profile.{Range, _to_}
 use Rattle.grammar.specs.Form.{number, decision, Pair}
 use Rattle.grammar.specs.Theorems.{isEmpty, fitsForm}
@@ -54,17 +54,9 @@ module _ (key : List ℕ) (fs : List Pair) where
       let r : isEmpty ms ≡ true = ap (λ (b : Bool). cond b (fitsForm fs ms) (isEmpty ms)) (sym e) ∙ q .1 in
       inl (ap (λ (x : ℕ). x ∷ ms) z ∙ ap (λ (xs : List ℕ). 1 ∷ xs) (no-values ms r)))
 
-pub inside-upto : (m n : ℕ) → n ≤ m → inside (upto m) n ≡ true
-unfolding inside
-inside-upto m n h = rw (le-leb 0 n (omega arith), le-leb n m h)
-
 -- a range of one number
 pub inside-one : (i n : ℕ) → inside (i to i ∷ []) n ≡ true → n ≡ i
 unfolding inside
 inside-one i n h =
     let q = and-eq-true-iff (leb i n) (leb n i) .0 (sym (or-false (leb i n && leb n i)) ∙ h) in
     omega (arith, leb-true i n (q .0), leb-true n i (q .1))
-
-pub inside-itself : (i : ℕ) → inside (i to i ∷ []) i ≡ true
-unfolding inside
-inside-itself i = rw (le-leb i i (omega arith))

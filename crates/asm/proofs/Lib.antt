@@ -11,7 +11,10 @@ pub mod Again
 pub mod Back
 pub mod Theorems
 pub mod Ranges
+pub mod LineNumbers
 pub mod Reached
 pub mod Outcome
 pub mod Exactly
+pub mod Writes
 pub mod WordLines
+pub mod Cases

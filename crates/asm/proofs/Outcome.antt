@@ -22,7 +22,8 @@ use Rattle.grammar.specs.Grammar.{readLine}
 use Rattle.asm.specs.Places.{lineKindAt}
 use Rattle.asm.specs.PlanLines.{planOf, enginePlanOf}
 use Rattle.asm.specs.Reading.{Sheet, program, refused-at, ranged, closed, withValues, withWord, readWordLine, readWords, readPlans, readSheet}
-use Rattle.asm.specs.Conditions.{Line, whole, cut, linesIn, linesOf, planIn, plansIn, planSaid, refusalOf, numberAt, lineCount, GoodTo, FirstBad, PlanValid, PlanDisjoint, GoodLines}
+use Rattle.asm.specs.Conditions.{Line, whole, cut, linesIn, linesOf, planIn, plansIn, planSaid, lineCount, GoodTo, FirstBad, PlanValid, PlanDisjoint, GoodLines}
+use Rattle.asm.proofs.LineNumbers.{refusalOf, plain-number, numberAt}
 use Rattle.asm.proofs.Reached.{drop-none, drop-within, Reached, plan-number, word-number, next, first-bad}
 use Rattle.asm.proofs.Ranges.{Ranged, fine, not-valid, not-disjoint, ranged-cases}
 use Rattle.asm.proofs.Proper.{Proper, line-proper}
@@ -40,7 +41,7 @@ module _ (P : Profile) (ls : List Line) where
   missing : (j : ℕ) → Reached P ls j ([] ∷ []) → j < lineCount P → Outcome P ls (refused-at 23 0)
   missing j r l =
       let z : length ls ≤ j = drop-none ls j (r .rest) in
-      miscounted (λ i m t. r .good i (omega arith) t) (λ e. omega arith) refl
+      miscounted (λ i n m t b. r .good i n (omega arith) t b) (λ e. omega arith) refl
 
   -- the next line isn't ended
   unended-bad : (j l x : ℕ) (s : List ℕ) → l ≡ j + 1 → Reached P ls j ((x ∷ s) ∷ []) → j < lineCount P → numberAt P ls j ≡ 20
@@ -121,7 +122,7 @@ module _ (P : Profile) (ls : List Line) where
   plans-outcome (suc n) j i qs line (s ∷ ps) c h e r =
       let rest : List ℕ → Sheet = λ ns. readPlans P n (i + 1) (qs ++ (enginePlanOf ns ∷ [])) (s ∷ ps) in
       plan-outcome (readLine P (kind.Plan i) line) rest j i line s ps e (omega arith) r
-      (plan-number P ls j i (whole line) (linesIn (s ∷ ps)) e (omega arith) (r .rest))
+      (plan-number P ls j i (whole line) (linesIn (s ∷ ps)) e (omega arith) (r .rest) ∙ plain-number (readLine P (kind.Plan i) line))
       (line-proper P (kind.Plan i) line)
       (λ ns g z.
       plans-outcome n (j + 1) (i + 1) (qs ++ (enginePlanOf ns ∷ [])) s ps (omega arith)
@@ -139,4 +140,4 @@ sheet-outcome P text = go (split lineFeed text) (split-step lineFeed text)
     go [] e = let z = ap length e in absurd (omega arith)
     go (s ∷ ps) e =
         plans-outcome P (linesIn (s ∷ ps)) (enginesOf P) 0 1 [] s ps (omega arith) refl refl
-        (record { reached = omega arith; rest = refl; good = λ i l t. absurd (omega arith) })
+        (record { reached = omega arith; rest = refl; good = λ i n l t b. absurd (omega arith) })

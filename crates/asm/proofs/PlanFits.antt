@@ -18,7 +18,9 @@ use Rattle.grammar.specs.Form.{Pair}
 use Rattle.grammar.specs.Grammar.{asks, _within_, planForm}
 use Rattle.grammar.specs.Theorems.{fitsForm}
 use Rattle.asm.specs.PlanLines.{enginePlanOf, planValues}
-use Rattle.asm.proofs.Fits.{no-values, number-values, number-fits, decision-values, inside-upto, inside-one, inside-itself}
+use Rattle.word.proofs.Fields.{in-upto}
+use Rattle.grammar.proofs.Ranges.{in-one}
+use Rattle.asm.proofs.Fits.{no-values, number-values, number-fits, decision-values, inside-one}
 
 -- the plan that a plan's values stand for is that plan
 pub plan-said : (i : ℕ) (q : EnginePlan) → enginePlanOf (planValues i q) ≡ q
@@ -88,7 +90,7 @@ module _ (P : Profile) (i : ℕ) where
 -- ---- the values of a plan in order fit
 
 address-inside : (P : Profile) (a : Address) → a .0 < wordsOf P → (a .0 ≤ 65535) × (inside (rangesOf P address) (a .0) ≡ true)
-address-inside LP5523 a h = (omega arith, inside-upto 95 (a .0) (omega arith))
+address-inside LP5523 a h = (omega arith, in-upto 95 (a .0) (omega arith))
 
 module _ (P : Profile) (i : ℕ) where
   -- two addresses in order, before values that fit
@@ -102,7 +104,7 @@ module _ (P : Profile) (i : ℕ) where
 
   engine-fits : (ns : List ℕ) → i ≤ 65535 → fitsForm (asks "use" ∷ code P) ns ≡ true → fitsForm (planForm P i) (i ∷ ns) ≡ true
   unfolding planForm
-  engine-fits ns small h = number-fits (ascii "engine") (asks "use" ∷ code P) (i to i ∷ []) i ns small (inside-itself i) h
+  engine-fits ns small h = number-fits (ascii "engine") (asks "use" ∷ code P) (i to i ∷ []) i ns small (in-one i) h
 
   pub plan-fits : (q : EnginePlan) → i ≤ 65535 → ValidRanges P q → fitsForm (planForm P i) (planValues i q) ≡ true
   unfolding fitsForm

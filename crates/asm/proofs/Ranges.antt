@@ -22,7 +22,7 @@ pub data Ranged (P : Profile) (p : Plan) (n : ℕ) : Type 0 where
 
 module _ (f : Verdict → Bool) where
   -- where all of a list hold, the next one decides
-  first-later : (xs ys : List Verdict) → allHold f xs ≡ true → firstFailing f (xs ++ ys) ≡ firstFailing f ys
+  pub first-later : (xs ys : List Verdict) → allHold f xs ≡ true → firstFailing f (xs ++ ys) ≡ firstFailing f ys
   unfolding firstFailing
   first-later [] ys h = refl
   first-later (v ∷ xs) ys h = go (f v) (first-later xs ys) h

@@ -9,8 +9,10 @@ use lib.ListN.{length, getD, drop, length-drop}
 use lib.Seq.{drop-cons}
 use Rattle.laws.proofs.Tests.{by-test}
 use Rattle.word.specs.Profile.{Profile, enginesOf}
+use Rattle.grammar.specs.declared.LineKind.the-variants as kind
 use Rattle.asm.specs.Places.{lineKindAt}
-use Rattle.asm.specs.Conditions.{Line, cut, linesIn, planSaid, planLineNumber, wordLineNumber, numberAt, lineCount, GoodTo, FirstBad}
+use Rattle.asm.specs.Conditions.{Line, cut, linesIn, planSaid, lineCount, GoodTo, FirstBad}
+use Rattle.asm.proofs.LineNumbers.{lineNumber, numberAt, bad-at}
 
 -- ---- a list from a place on
 
@@ -39,31 +41,31 @@ pub record Reached (P : Profile) (ls : List Line) (j : ℕ) (ps : List (List ℕ
 
 module _ (P : Profile) (ls : List Line) where
   -- the line at place j, as a plan line and as a word line
-  pub plan-number : (j i : ℕ) (x : Line) (r : List Line) → i ≡ j + 1 → j < enginesOf P → drop j ls ≡ x ∷ r → numberAt P ls j ≡ planLineNumber P i x
+  pub plan-number : (j i : ℕ) (x : Line) (r : List Line) → i ≡ j + 1 → j < enginesOf P → drop j ls ≡ x ∷ r → numberAt P ls j ≡ lineNumber P (kind.Plan i) x
   unfolding numberAt
-  plan-number j i x r e l h = rw (lt-ltb j (enginesOf P) l) (ap₂ (planLineNumber P) (sym e) (drop-first (cut []) ls j h))
+  plan-number j i x r e l h = rw (lt-ltb j (enginesOf P) l) (ap₂ (λ (m : ℕ) (y : Line). lineNumber P (kind.Plan m) y) (sym e) (drop-first (cut []) ls j h))
 
   pub word-number : (j a : ℕ) (x : Line) (r : List Line) → j ≡ enginesOf P + a → drop j ls ≡ x ∷ r
-      → numberAt P ls j ≡ wordLineNumber P (lineKindAt P (planSaid P ls) a) x
+      → numberAt P ls j ≡ lineNumber P (lineKindAt P (planSaid P ls) a) x
   unfolding numberAt
   word-number j a x r e h =
       let z : j - enginesOf P ≡ a = omega arith in
       rw (le-ltb j (enginesOf P) (omega arith))
-      (ap₂ (λ (b : ℕ) (y : Line). wordLineNumber P (lineKindAt P (planSaid P ls) b) y) z (drop-first (cut []) ls j h))
+      (ap₂ (λ (b : ℕ) (y : Line). lineNumber P (lineKindAt P (planSaid P ls) b) y) z (drop-first (cut []) ls j h))
 
   -- after a good line
   pub next : (j : ℕ) (line s : List ℕ) (ps : List (List ℕ)) → Reached P ls j (line ∷ s ∷ ps) → numberAt P ls j ≡ 0 → Reached P ls (j + 1) (s ∷ ps)
   next j line s ps r z = record {
     reached = omega (arith, drop-within (cut []) ls j (r .rest));
     rest = drop-next (cut []) ls j (r .rest);
-    good = λ i l t.
+    good = λ i n l t b.
         by-test (eqb i j)
-        (λ e. ap (numberAt P ls) (eqb-true i j e) ∙ z)
-        (λ e. let d : i ≡ j → ⊥ = eqb-false i j e in r .good i (omega arith) t);
+        (λ e. let h = bad-at P ls i n .0 b in h .1 (sym (h .0) ∙ ap (numberAt P ls) (eqb-true i j e) ∙ z))
+        (λ e. let d : i ≡ j → ⊥ = eqb-false i j e in r .good i n (omega arith) t b);
   }
 
   -- at a bad line
   pub first-bad : (j n : ℕ) (x : Line) (xs : List Line) (ps : List (List ℕ)) → Reached P ls j ps → drop j ls ≡ x ∷ xs → j < lineCount P
       → numberAt P ls j ≡ n → (n ≡ 0 → ⊥) → FirstBad P ls j n
   first-bad j n x xs ps r e l z d =
-      record { among = l; there = drop-within (cut []) ls j e; before = r .good; bad = z; refusal = d }
+      record { among = l; there = drop-within (cut []) ls j e; before = r .good; bad = bad-at P ls j n .1 (z, d) }

@@ -4,31 +4,26 @@ use mathlib.Core.Bool.{Bool, true, false, cond}
 use mathlib.Core.List.{List, [], _∷_, _++_}
 use mathlib.Core.Path.{_≡_, refl, ap, subst, _∙_}
 use native.Mathlib.Omega.{arith}
-use borrow.Author.Tests.{eq-eqb, le-leb}
-use lib.Dec.{eqb, leb}
+use borrow.Author.Tests.{eq-eqb}
+use lib.Dec.{eqb}
 use lib.ListN.{length, getD}
-use Rattle.plan.specs.Verdict.{isAccept}
 use Rattle.text.specs.Bytes.{lineFeed, split}
 use Rattle.text.proofs.Theorems.{joins-split}
 use Rattle.word.specs.Profile.{Profile, LP5523, wordsOf, enginesOf}
 use Rattle.plan.specs.declared.EnginePlan.{EnginePlan}
 use Rattle.plan.specs.declared.EnginePlan.the-variants.{Unused, CodeOnly, CodeAndTable}
 use Rattle.plan.specs.declared.Plan.{Plan}
-use Rattle.plan.specs.declared.Verdict.{Verdict}
-use Rattle.plan.specs.declared.Verdict.the-variants.{Accept}
 use Rattle.plan.specs.Ranges.{enginePlans, planAt, InCode}
 use Rattle.plan.specs.Conditions.{ValidRanges}
-use Rattle.plan.proofs.Laws.{is-accept}
 use Rattle.op_lines.proofs.Theorems.{line-again, code-again, reads-defined}
-use Rattle.asm.specs.declared.Disassembled.{Disassembled}
-use Rattle.asm.specs.declared.Disassembled.the-variants.{Length, Refused, TooShort}
 use Rattle.asm.specs.PlanLines.{planOf}
 use Rattle.asm.specs.Reading.{program, refused-at, readPlans, readSheet, assembleOf}
-use Rattle.asm.specs.Writing.{planLines, wordLines, ended, sheetOf, writableOf, disassembleOf}
+use Rattle.asm.specs.Writing.{planLines, wordLines, ended, sheetOf, wrote, disassembleOf}
 use Rattle.asm.specs.Theorems.{SheetAgain, ProgramAgain, Sound, ReadsSound}
 use Rattle.asm.proofs.Each.{Each, each-at, each-of}
 use Rattle.asm.proofs.Codes.{code-kind}
 use Rattle.asm.proofs.Writable.{ranges-exactly, writable-exactly}
+use Rattle.asm.proofs.Writes.{given-room, writes-exactly}
 use Rattle.asm.proofs.WordLaws.{word-line-back}
 use Rattle.asm.proofs.Steps.{never}
 use Rattle.asm.proofs.Again.{DefinedAt, SheetRead, plans-read}
@@ -68,27 +63,6 @@ assembled P words text image p e = go (eqb words (wordsOf P)) e
     go true e = e
     go false e = absurd (never e)
 
-disassembled : (P : Profile) (image : List ℕ) (p : Plan) (room n : ℕ) → disassembleOf P p image room ≡ Length n → writableOf P p image ≡ Accept
-unfolding disassembleOf
-disassembled P image p room n e = is-accept (writableOf P p image) (go (isAccept (writableOf P p image)) e)
-  where
-    refused-length : {v : Verdict} → Refused v ≡ Length n → ⊥
-    refused-length e =
-        let z : _≡_ {A = ℕ} 0 1 = cc in
-        omega arith
-
-    fitting : Disassembled
-    fitting = cond (leb (length (sheetOf P p image)) room) (Length (length (sheetOf P p image))) TooShort
-
-    go : (b : Bool) → cond b fitting (Refused (writableOf P p image)) ≡ Length n → b ≡ true
-    go true e = refl
-    go false e = absurd (refused-length e)
-
-written : (P : Profile) (image : List ℕ) (p : Plan) (room : ℕ) → writableOf P p image ≡ Accept → length (sheetOf P p image) ≤ room
-    → disassembleOf P p image room ≡ Length (length (sheetOf P p image))
-unfolding disassembleOf
-written P image p room e h = rw (e, le-leb (length (sheetOf P p image)) room h)
-
 -- what a sheet that is read tells
 sheet-read : (P : Profile) (text image : List ℕ) (p : Plan) (words : ℕ) → assembleOf P words text ≡ program p image
     → SheetRead P (enginesOf P) 1 [] (split lineFeed text) p image
@@ -122,7 +96,7 @@ pub sheet-again : SheetAgain
 sheet-again P text image p words room e h =
     let same = sheet-same P text image p words e in
     let writable = writable-exactly P p image .1 (reads-sound P text image p words e) in
-    (same, subst (λ (t : List ℕ). length t ≤ room → disassembleOf P p image room ≡ Length (length t)) same (written P image p room writable) h)
+    (same, subst (λ (t : List ℕ). length t ≤ room → disassembleOf P p image room ≡ wrote (length t)) same (given-room P p image room writable) h)
 
 words-back : (P : Profile) (image : List ℕ) (p : Plan) → ((a : ℕ) → getD image a 0 ≤ 65535) → Sound P p image → Each (BackAt P p) 0 image
 words-back P image p small s =
@@ -134,7 +108,7 @@ words-back P image p small s =
 pub program-again : ProgramAgain
 unfolding assembleOf readSheet sheetOf
 program-again P image p room n small e =
-    let s = writable-exactly P p image .0 (disassembled P image p room n e) in
+    let s = writes-exactly P p image room .isWritten n .0 e .0 in
     let ranges = ranges-exactly P p .1 (s .validRanges, s .disjoint) in
     let back = words-back P image p small s in
     rw (eq-eqb (wordsOf P) (wordsOf P) refl)

@@ -27,7 +27,8 @@ use Rattle.asm.specs.Places.{lineKindAt}
 use Rattle.asm.specs.Reading.{plainWord, readWordLine}
 use Rattle.asm.specs.Writing.{wordLine}
 use Rattle.asm.proofs.Codes.{by-kind}
-use Rattle.asm.proofs.Fits.{no-values, number-values, number-fits, inside-upto}
+use Rattle.word.proofs.Fields.{in-upto}
+use Rattle.asm.proofs.Fits.{no-values, number-values, number-fits}
 use Rattle.asm.proofs.Proper.{Proper, line-proper}
 
 one-value : (k : String) (ns : List ℕ) → fitsForm (wordForm k) ns ≡ true → getD ns 0 0 ∷ [] ≡ ns
@@ -39,7 +40,7 @@ one-value k ns h =
 
 word-fits : (k : String) (w : ℕ) → w ≤ 65535 → fitsForm (wordForm k) (w ∷ []) ≡ true
 unfolding wordForm fitsForm
-word-fits k w h = number-fits (ascii k) [] (upto 65535) w [] h (inside-upto 65535 w h) refl
+word-fits k w h = number-fits (ascii k) [] (upto 65535) w [] h (in-upto 65535 w h) refl
 
 -- the lines of one number
 module _ (P : Profile) (f : LineKind) where

@@ -9,6 +9,7 @@ use Rattle.asm.specs.declared.LineReport.{LineReport}
 use Rattle.asm.specs.declared.Disassembled.{Disassembled}
 use Rattle.asm.specs.declared.Disassembled.the-variants.{Length, Refused, TooShort}
 use Rattle.asm.specs.Reading.{Sheet, program, refused-at}
+use Rattle.asm.specs.Writing.{Written, wrote, unwritten}
 
 -- The assembler's, with the words that it left in the lent image.
 abbrev pub readingOf : Assembled → List ℕ → Sheet
@@ -33,8 +34,12 @@ lineIn (refused-at n l) = l
 abbrev pub lineReportOf : Assembled → LineReport
 lineReportOf r = record { number = numberIn (readingOf r []); line = lineIn (readingOf r []) }
 
--- The disassembler's, as the checker reports; zeros for success.
+-- The disassembler's.
+abbrev pub writtenOf : Disassembled → Written
+writtenOf (Length n) = wrote n
+writtenOf (Refused v) = unwritten (reportOf v)
+writtenOf TooShort = unwritten (report 24 0 0)
+
+-- Its report, as the checker reports; zeros for success.
 abbrev pub writingOf : Disassembled → Report
-writingOf (Length n) = report 0 0 0
-writingOf (Refused v) = reportOf v
-writingOf TooShort = report 24 0 0
+writingOf r = report (writtenOf r .number) (writtenOf r .engine) (writtenOf r .address)

@@ -5,3 +5,4 @@ pub mod Writing
 pub mod Answers
 pub mod Conditions
 pub mod Theorems
+pub mod Cases

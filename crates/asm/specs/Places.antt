@@ -34,5 +34,5 @@ unfoldable pub ownerAt : Profile → Plan → ℕ → ℕ
 ownerAt P p a = lowestWith inCode 1 (enginePlans P p) a (lowestWith inTable 1 (enginePlans P p) a 0)
 
 -- The line in which the word with an address stands: the plan lines come before the words, one for each engine, and lines are counted from 1.
-abbrev pub encodingOf : Profile → ℕ → ℕ
-encodingOf P a = enginesOf P + a + 1
+abbrev pub lineOf : Profile → ℕ → ℕ
+lineOf P a = enginesOf P + a + 1

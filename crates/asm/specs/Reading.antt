@@ -37,9 +37,13 @@ readWordLine P (kind.Plan i) line = plainWord (readLine P (kind.Plan i) line)
 readWordLine P kind.Row line = plainWord (readLine P kind.Row line)
 readWordLine P kind.Spare line = plainWord (readLine P kind.Spare line)
 
+-- "23: not exactly 99 lines", with line 0.
+abbrev pub miscounted : Sheet
+miscounted = refused-at 23 0
+
 -- What stands after the last LF: nothing, so a line is missing; or a line with a bad ending.
 abbrev pub unended : List ℕ → ℕ → Sheet
-unended [] l = refused-at 23 0
+unended [] l = miscounted
 unended (x ∷ p) l = refused-at 20 l
 
 -- 11 and 12, of the plan as a whole.
@@ -47,12 +51,12 @@ abbrev pub ranged : ℕ → Plan → List ℕ → Sheet
 ranged zero p ws = program p ws
 ranged (suc k) p ws = refused-at (suc k) 0
 
--- After the last word nothing may follow.
+-- After the last word nothing may follow. A text has at least one part: here and below no text comes to the clauses for none.
 abbrev pub closed : Profile → Plan → List ℕ → List (List ℕ) → Sheet
-closed P p ws [] = refused-at 23 0
+closed P p ws [] = miscounted
 closed P p ws ([] ∷ []) = ranged (reportOf (checkRangesOf P p) .number) p ws
-closed P p ws ([] ∷ q ∷ ps) = refused-at 23 0
-closed P p ws ((x ∷ q) ∷ ps) = refused-at 23 0
+closed P p ws ([] ∷ q ∷ ps) = miscounted
+closed P p ws ((x ∷ q) ∷ ps) = miscounted
 
 -- A line's values, or its refusal as the sheet's.
 abbrev pub withValues : Reading → ℕ → (List ℕ → Sheet) → Sheet
@@ -65,7 +69,7 @@ withWord a l f = cond (eqb (a .number) 0) (f (a .code)) (refused-at (a .number) 
 -- n words more, after the words ws: the next has address a and stands in line l, the first of the parts between the line feeds.
 unfoldable pub readWords : Profile → Plan → ℕ → ℕ → ℕ → List ℕ → List (List ℕ) → Sheet
 readWords P p zero a l ws ps = closed P p ws ps
-readWords P p (suc n) a l ws [] = refused-at 23 0
+readWords P p (suc n) a l ws [] = miscounted
 readWords P p (suc n) a l ws (line ∷ []) = unended line l
 readWords P p (suc n) a l ws (line ∷ q ∷ ps) =
     withWord (readWordLine P (lineKindAt P p a) line) l (λ w. readWords P p n (a + 1) (l + 1) (ws ++ (w ∷ [])) (q ∷ ps))
@@ -73,7 +77,7 @@ readWords P p (suc n) a l ws (line ∷ q ∷ ps) =
 -- n plan lines more, after the plans qs, then the words: engine i's stands in line i.
 unfoldable pub readPlans : Profile → ℕ → ℕ → List EnginePlan → List (List ℕ) → Sheet
 readPlans P zero i qs ps = readWords P (planOf P qs) (wordsOf P) 0 i [] ps
-readPlans P (suc n) i qs [] = refused-at 23 0
+readPlans P (suc n) i qs [] = miscounted
 readPlans P (suc n) i qs (line ∷ []) = unended line i
 readPlans P (suc n) i qs (line ∷ q ∷ ps) =
     withValues (readLine P (kind.Plan i) line) i (λ ns. readPlans P n (i + 1) (qs ++ (enginePlanOf ns ∷ [])) (q ∷ ps))

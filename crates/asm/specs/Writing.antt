@@ -3,16 +3,17 @@
 use Prim.Native.Nat.{ℕ, _+_}
 use mathlib.Core.Bool.{cond}
 use mathlib.Core.List.{List, [], _∷_, _++_, map}
-use lib.Dec.{leb}
+use lib.Dec.{eqb, leb}
 use lib.ListN.{length}
-use Rattle.plan.specs.Verdict.{isAccept}
 use Rattle.text.specs.Bytes.{lineFeed}
 use Rattle.word.specs.Profile.{Profile}
 use Rattle.word.specs.Steps.{addressAt}
 use Rattle.plan.specs.declared.EnginePlan.{EnginePlan}
 use Rattle.plan.specs.declared.Plan.{Plan}
+use Rattle.plan.specs.declared.Report.{Report}
 use Rattle.plan.specs.declared.Verdict.{Verdict}
 use Rattle.plan.specs.declared.Verdict.the-variants.{WrongLength, InvalidRange, CodeOverlapsTable, UndefinedWord}
+use Rattle.plan.specs.Verdict.{report, reportOf, isAccept}
 use Rattle.plan.specs.Ranges.{enginePlans, planAt, codeAddresses}
 use Rattle.plan.specs.Tests.{holds}
 use Rattle.plan.specs.Check.{engineNumbers, joined, firstFailing}
@@ -21,8 +22,6 @@ use Rattle.grammar.specs.declared.LineKind.{LineKind}
 use Rattle.grammar.specs.declared.LineKind.the-variants as kind
 use Rattle.grammar.specs.Grammar.{writeLine}
 use Rattle.op_lines.specs.Lines.{opLineOf, over}
-use Rattle.asm.specs.declared.Disassembled.{Disassembled}
-use Rattle.asm.specs.declared.Disassembled.the-variants.{Length, Refused, TooShort}
 use Rattle.asm.specs.Places.{lineKindAt}
 use Rattle.asm.specs.PlanLines.{planValues}
 
@@ -66,19 +65,28 @@ objectionsTo P p =
 unfoldable pub writableOf : Profile → Plan → List ℕ → Verdict
 writableOf P p image = firstFailing (holds P p image) (objectionsTo P p)
 
--- Where there is room for so many bytes.
-unfoldable pub disassembleOf : Profile → Plan → List ℕ → ℕ → Disassembled
+-- What writing a sheet gives: the number of the refusal, zero for success, the engine and the address with it, and the text's length, zero
+-- where it is not written.
+pub record Written : Type 0 where
+  pub number : ℕ
+  pub engine : ℕ
+  pub address : ℕ
+  pub size : ℕ
+
+abbrev pub wrote : ℕ → Written
+wrote n = record { number = 0; engine = 0; address = 0; size = n }
+
+abbrev pub unwritten : Report → Written
+unwritten r = record { number = r .number; engine = r .engine; address = r .address; size = 0 }
+
+-- Where there is room for so many bytes. No sheet is empty, so that no two answers of the writer are the same here.
+unfoldable pub disassembleOf : Profile → Plan → List ℕ → ℕ → Written
 disassembleOf P p image room =
     cond
     (isAccept (writableOf P p image))
-    (cond (leb (length (sheetOf P p image)) room) (Length (length (sheetOf P p image))) TooShort)
-    (Refused (writableOf P p image))
+    (cond (leb (length (sheetOf P p image)) room) (wrote (length (sheetOf P p image))) (unwritten (report 24 0 0)))
+    (unwritten (reportOf (writableOf P p image)))
 
 -- The lent bytes afterwards.
-abbrev pub wroteOver : Disassembled → List ℕ → List ℕ → List ℕ
-wroteOver (Length n) text old = over text old
-wroteOver (Refused v) text old = old
-wroteOver TooShort text old = old
-
 unfoldable pub bytesAfter : Profile → Plan → List ℕ → List ℕ → List ℕ
-bytesAfter P p image old = wroteOver (disassembleOf P p image (length old)) (sheetOf P p image) old
+bytesAfter P p image old = cond (eqb (disassembleOf P p image (length old) .number) 0) (over (sheetOf P p image) old) old

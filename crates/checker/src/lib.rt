@@ -7,4 +7,6 @@ mod successors;
 
 pub use image::check;
 pub use ranges::check_ranges;
+pub use successors::in_code;
+pub use successors::in_range;
 pub use successors::stray_of;

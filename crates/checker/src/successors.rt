@@ -17,8 +17,8 @@ ghost use Rattle.plan.specs.Conditions.{unlessEndless};
 ghost use Rattle.plan.specs.Tests.{inRange, inCode, successorsInside};
 ghost use Rattle.plan.specs.Strays.{firstOutside, strayOf};
 
-// 14: a successor is a u32, so that no addition to an address overflows.
-fn in_range(first: Address, last: Address, at: u32) -> bool
+// Whether a range has an address. An address is a u32 here, so that no addition to one overflows (14).
+pub fn in_range(first: Address, last: Address, at: u32) -> bool
     ensures { λ r. ⌜ r ≡ inRange first last at ⌝ }
 {
     if first.0 as u32 > at {
@@ -27,7 +27,8 @@ fn in_range(first: Address, last: Address, at: u32) -> bool
     at <= last.0 as u32
 }
 
-fn in_code(q: EnginePlan, at: u32) -> bool
+// Whether an engine's code has an address.
+pub fn in_code(q: EnginePlan, at: u32) -> bool
     ensures { λ r. ⌜ r ≡ inCode q at ⌝ }
 {
     match q {

@@ -4,12 +4,12 @@ use mathlib.Core.Bool.{Bool, true, false, cond}
 use mathlib.Core.List.{List, [], _∷_, _++_, append-assoc}
 use mathlib.Core.Path.{_≡_, refl, sym, ap, _∙_}
 use native.Mathlib.Numerals.{add-one}
-use borrow.Author.Tests.{le-leb, lt-leb}
+use native.Mathlib.Omega.{arith}
 use types.Run.{OneOf, miss}
 use denote.Enum.Declared.{tagOf}
 use lib.ListN.{length, getD, drop, drop-of-length-le}
 use lib.Seq.{drop-cons}
-use Rattle.plan.specs.Verdict.{isAccept}
+use Rattle.plan.specs.Verdict.{report, reportOf, isAccept}
 use Rattle.text.specs.Bytes.{lineFeed}
 use Rattle.word.specs.Profile.{Profile, LP5523}
 use Rattle.plan.specs.declared.EnginePlan.{EnginePlan}
@@ -27,10 +27,10 @@ use Rattle.grammar.specs.Form.{continued, writeForm}
 use Rattle.grammar.specs.Grammar.{planForm, wordForm, writeParts, writeLine}
 use Rattle.grammar.specs.Values.{valuesOf, listOf}
 use Rattle.op_lines.specs.Lines.{over}
-use Rattle.asm.specs.declared.Disassembled.the-variants.{Length, Refused, TooShort}
 use Rattle.asm.specs.Places.{inTable, anyHas, lineKindAt}
 use Rattle.asm.specs.PlanLines.{planValues}
-use Rattle.asm.specs.Writing.{wordLine, planLines, wordLines, ended, sheetOf, writableOf, disassembleOf, bytesAfter}
+use Rattle.asm.specs.Writing.{wordLine, planLines, wordLines, ended, sheetOf, writableOf, wrote, unwritten, disassembleOf, bytesAfter}
+use Rattle.asm.proofs.Writes.{given-room, without-room, objected, bytes-kept, bytes-written, refusal-number}
 use Rattle.disassembler.specs.internal.Walks.{IsWordLine}
 
 -- ---- lines
@@ -103,22 +103,17 @@ sheet-text p image =
 
 module _ (P : Profile) (p : Plan) (image old : List ℕ) where
   pub refused : {v : Verdict} → v ≡ writableOf P p image → isAccept v ≡ false
-      → (Refused v ≡ disassembleOf P p image (length old)) × (old ≡ bytesAfter P p image old)
-  unfolding disassembleOf bytesAfter
-  refused is h = let e : isAccept (writableOf P p image) ≡ false = ap isAccept (sym is) ∙ h in (rw e (ap Refused is), rw e refl)
+      → (unwritten (reportOf v) ≡ disassembleOf P p image (length old)) × (old ≡ bytesAfter P p image old)
+  refused {v} is h =
+      let e = objected P p image (length old) (ap isAccept (sym is) ∙ h) in (
+        ap (λ (x : Verdict). unwritten (reportOf x)) is ∙ sym e,
+        bytes-kept P p image old e (refusal-number (writableOf P p image) (ap isAccept (sym is) ∙ h)),
+      )
 
   pub no-room : writableOf P p image ≡ Accept → length old < length (sheetOf P p image)
-      → (TooShort ≡ disassembleOf P p image (length old)) × (old ≡ bytesAfter P p image old)
-  unfolding disassembleOf bytesAfter
-  no-room h l =
-      let e : isAccept (writableOf P p image) ≡ true = ap isAccept h in
-      let f = lt-leb (length (sheetOf P p image)) (length old) l in
-      (rw (e, f) refl, rw (e, f) refl)
+      → (unwritten (report 24 0 0) ≡ disassembleOf P p image (length old)) × (old ≡ bytesAfter P p image old)
+  no-room h l = let e = without-room P p image (length old) h l in (sym e, bytes-kept P p image old e (λ z. omega arith))
 
   pub with-room : writableOf P p image ≡ Accept → length (sheetOf P p image) ≤ length old
-      → (Length (length (sheetOf P p image)) ≡ disassembleOf P p image (length old)) × (over (sheetOf P p image) old ≡ bytesAfter P p image old)
-  unfolding disassembleOf bytesAfter
-  with-room h l =
-      let e : isAccept (writableOf P p image) ≡ true = ap isAccept h in
-      let f = le-leb (length (sheetOf P p image)) (length old) l in
-      (rw (e, f) refl, rw (e, f) refl)
+      → (wrote (length (sheetOf P p image)) ≡ disassembleOf P p image (length old)) × (over (sheetOf P p image) old ≡ bytesAfter P p image old)
+  with-room h l = let e = given-room P p image (length old) h l in (sym e, bytes-written P p image old e refl)

@@ -10,6 +10,7 @@ ghost use mathlib.Core.Path.{_≡_};
 ghost use lib.ListN.{length};
 ghost use Rattle.text.specs.Put.{Put};
 ghost use Rattle.word.specs.Profile.{LP5523};
+ghost use Rattle.asm.specs.Answers.{writtenOf};
 ghost use Rattle.asm.specs.Writing.{sheetOf, writableOf, disassembleOf, bytesAfter};
 
 // What can be said against writing a plan and its image: 9, 11, 12, 13.
@@ -42,7 +43,7 @@ fn put_sheet(out: &mut [u8], plan: Plan, image: &[u16]) -> usize
 // Writes the sheet of a plan and its image. A refusal leaves the lent bytes as they were. The text is
 // measured on no bytes first.
 pub fn disassemble(plan: Plan, image: &[u16], out: &mut [u8]) -> Disassembled
-    ensures { λ r. ⌜ r ≡ disassembleOf LP5523 plan (now (image .entry)) (length (now (out .entry))) ⌝ }
+    ensures { λ r. ⌜ writtenOf r ≡ disassembleOf LP5523 plan (now (image .entry)) (length (now (out .entry))) ⌝ }
     ensures { λ r. ⌜ now (out .exit) ≡ bytesAfter LP5523 plan (now (image .entry)) (now (out .entry)) ⌝ }
 {
     let verdict = check_writable(plan, image);

@@ -15,3 +15,5 @@ pub mod Spots
 pub mod Conform
 pub mod Exactly
 pub mod Ranges
+pub mod Walk
+pub mod Cases

@@ -265,3 +265,7 @@ op-form k h = sym (List·getD-append (map (λ (l : OpLine). l .form) (opLines LP
 pub plan-form : planPairs LP5523 ≡ formOf opCount
 unfolding formOf forms
 plan-form = refl
+
+-- A kind that is none of numbers has its keywords in the tables.
+pub listed : {k : ℕ} → k < kindCount → numberKinds ≤ k → k - numberKinds < 4
+listed h l = omega arith

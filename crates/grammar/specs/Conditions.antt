@@ -1,6 +1,6 @@
 -- When a line is refused with 20, 21 or 22, as plain statements (document 01, "Numbers of refusal" and the paragraph under its table). That
--- the reader gives each number exactly there is stated below; the proofs are in proofs/Exactly.antt. The 22 of a ramp up by 0 is the
--- encoder's, and comes in `op_lines`.
+-- the reader gives each number exactly there is stated in specs/Theorems.antt. The 22 of a ramp up by 0 is the encoder's, and comes in
+-- `op_lines`.
 use Prim.Native.Nat.{ℕ}
 use mathlib.Core.Bool.{Bool, true, false, cond}
 use mathlib.Core.List.{List, [], _∷_}

@@ -3,6 +3,7 @@ pub mod Written
 pub mod Filled
 pub mod Codes
 pub mod Numbers
+pub mod UpByZero
 pub mod Refusals
 pub mod Answered
 pub mod Room

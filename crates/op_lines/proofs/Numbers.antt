@@ -5,7 +5,9 @@ use mathlib.Core.Logic.{_⊎_, inl, inr}
 use mathlib.Core.Path.{_≡_, refl, ap, _∙_}
 use Rattle.word.specs.Profile.{Profile}
 use Rattle.word.specs.Table.{encodeOf}
+use Rattle.word.specs.declared.Direction.the-variants.{Up}
 use Rattle.word.specs.declared.Word.{Word}
+use Rattle.word.specs.declared.Word.the-variants.{Ramp}
 use Rattle.word.proofs.Theorems.{refuses-up-by-zero}
 use Rattle.grammar.specs.declared.LineKind.the-variants.{Op}
 use Rattle.grammar.specs.Form.{Reading, values, refused}
@@ -15,7 +17,6 @@ use Rattle.grammar.proofs.Theorems.{read-fits}
 use Rattle.op_lines.specs.Words.{wordOf}
 use Rattle.op_lines.specs.Values.{opValues}
 use Rattle.op_lines.specs.Lines.{coded, assembleLineOf}
-use Rattle.op_lines.specs.Theorems.{UpByZero}
 use Rattle.op_lines.proofs.Written.{RampByZero}
 use Rattle.op_lines.proofs.Filled.{filled}
 use Rattle.op_lines.proofs.Codes.{fits-code}
@@ -24,12 +25,16 @@ pub read-filled : (P : Profile) (line ns : List ℕ) → readLine P Op line ≡ 
 unfolding fitsLine
 read-filled P line ns q = filled P ns (read-fits P Op line ns q)
 
+-- A line whose values stand for a ramp up by 0.
+abbrev pub ByZero : Profile → List ℕ → Type 0
+ByZero P line = (p : ℕ) × (t : ℕ) × (ns : List ℕ) × (readLine P Op line ≡ values ns) × (wordOf P ns ≡ Ramp p t Up 0)
+
 module _ (P : Profile) (line : List ℕ) where
   pub refused-number : {k : ℕ} → readLine P Op line ≡ refused k → assembleLineOf P line .number ≡ k
   unfolding assembleLineOf
   refused-number q = ap (λ (r : Reading). coded P r .number) q
 
-  pub zero-number : UpByZero P line → assembleLineOf P line .number ≡ 22
+  pub zero-number : ByZero P line → assembleLineOf P line .number ≡ 22
   unfolding assembleLineOf
   zero-number u = ap (λ (r : Reading). coded P r .number) (u .3) ∙ ap (λ (i : Word). encodeOf P i .number) (u .4) ∙ refuses-up-by-zero P (u .0) (u .1)
 
@@ -37,7 +42,7 @@ module _ (P : Profile) (line : List ℕ) where
   pub data Outcome : Type 0 where
     code : assembleLineOf P line .number ≡ 0 → Outcome
     unread : (k : ℕ) → readLine P Op line ≡ refused k → Outcome
-    byZero : UpByZero P line → Outcome
+    byZero : ByZero P line → Outcome
 
   pub outcome : Outcome
   unfolding assembleLineOf fitsLine

@@ -16,6 +16,7 @@ use Rattle.grammar.specs.Conditions.{LineWellFormed, LineUnknown, LineOutside}
 use Rattle.op_lines.specs.Words.{wordOf}
 use Rattle.op_lines.specs.Lines.{coded, assembleLineOf}
 use Rattle.op_lines.specs.Theorems.{UpByZero, Exactly}
+use Rattle.op_lines.proofs.UpByZero.{parts-stand, stands-parts}
 use Rattle.op_lines.proofs.Numbers.{refused-number, zero-number, Outcome, code, unread, byZero, outcome}
 
 module _ (P : Profile) (line : List ℕ) (reader : grammar.Exactly P Op line) where
@@ -64,7 +65,7 @@ module _ (P : Profile) (line : List ℕ) (reader : grammar.Exactly P Op line) wh
   Is22 =
       LineWellFormed P Op (split space line)
       × (LineUnknown P Op (split space line) → ⊥)
-      × (LineOutside P Op (split space line) ⊎ UpByZero P line)
+      × (LineOutside P Op (split space line) ⊎ UpByZero (split space line))
 
   from-22 : assembleLineOf P line .number ≡ 22 → Is22
   from-22 e = go (outcome P line)
@@ -72,11 +73,21 @@ module _ (P : Profile) (line : List ℕ) (reader : grammar.Exactly P Op line) wh
       go : Outcome P line → Is22
       go (code z) = absurd (omega arith)
       go (unread k q) = let h = reader .is22 .0 (reader-number q e) in (h .0, h .1, inl (h .2))
-      go (byZero u) = let h = values-known (u .3) in (h .0, h .1, inr u)
+      go (byZero u) = let h = values-known (u .3) in (h .0, h .1, inr (stands-parts P line u))
 
   to-22 : Is22 → assembleLineOf P line .number ≡ 22
   to-22 (f, n, inl o) = refused-number P line (reader .is22 .1 (f, n, o))
-  to-22 (f, n, inr u) = zero-number P line u
+  to-22 (f, n, inr u) = go (readLine P Op line) refl
+    where
+      -- the reader's own refusal can be no other
+      only : {k : ℕ} → readLine P Op line ≡ refused k → (k ≡ 20) ⊎ ((k ≡ 21) ⊎ (k ≡ 22)) → k ≡ 22
+      only q (inl a) = absurd (reader .is20 .0 (q ∙ ap refused a) f)
+      only q (inr (inl a)) = absurd (n (reader .is21 .0 (q ∙ ap refused a) .1))
+      only q (inr (inr a)) = a
+
+      go : (r : Reading) → readLine P Op line ≡ r → assembleLineOf P line .number ≡ 22
+      go (values ns) q = zero-number P line (parts-stand P line ns q u)
+      go (refused k) q = refused-number P line q ∙ only q (reader .others k q)
 
   any-number : Outcome P line
       → (assembleLineOf P line .number ≡ 0)

@@ -2,7 +2,7 @@
 use Prim.Native.Nat.{ℕ}
 use mathlib.Core.Bool.{cond}
 use mathlib.Core.List.{List, _++_}
-use lib.Dec.{leb}
+use lib.Dec.{eqb, leb}
 use lib.ListN.{length, drop}
 use Rattle.word.specs.Profile.{Profile}
 use Rattle.word.specs.Answer.{Answer, success, refusal}
@@ -40,28 +40,34 @@ answerOf Malformed = refusal 20
 answerOf UnknownOp = refusal 21
 answerOf OutsideField = refusal 22
 
--- What writing the line of a code answers, where there is room for so many bytes: 13 for the undefined word, then 24
--- where the line is longer than the room.
-unfoldable pub disassembleWordOf : Profile → ℕ → ℕ → WordWritten
+-- What writing a line gives: the number of the refusal, zero for success, and the line's length, zero where it is not written.
+pub record Written : Type 0 where
+  pub number : ℕ
+  pub size : ℕ
+
+abbrev pub wrote : ℕ → Written
+wrote n = record { number = 0; size = n }
+
+abbrev pub unwritten : ℕ → Written
+unwritten k = record { number = k; size = 0 }
+
+abbrev pub writtenOf : WordWritten → Written
+writtenOf (Length n) = wrote n
+writtenOf UndefinedWord = unwritten 13
+writtenOf TooShort = unwritten 24
+
+-- Writing the line of a code where there is room for so many bytes: 13 for the undefined word, then 24 where the line is longer than the
+-- room. No line is empty, so that no two answers are the same here.
+unfoldable pub disassembleWordOf : Profile → ℕ → ℕ → Written
 disassembleWordOf P w room =
     cond
     (isUndefined (decodeOf P w))
-    UndefinedWord
-    (cond (leb (length (opLineOf P w)) room) (Length (length (opLineOf P w))) TooShort)
-
-abbrev pub writtenNumber : WordWritten → ℕ
-writtenNumber (Length n) = 0
-writtenNumber UndefinedWord = 13
-writtenNumber TooShort = 24
+    (unwritten 13)
+    (cond (leb (length (opLineOf P w)) room) (wrote (length (opLineOf P w))) (unwritten 24))
 
 -- The lent bytes afterwards: the line in front, where it was written.
 abbrev pub over : List ℕ → List ℕ → List ℕ
 over text old = text ++ drop (length text) old
 
-abbrev pub wroteOver : WordWritten → List ℕ → List ℕ → List ℕ
-wroteOver (Length n) text old = over text old
-wroteOver UndefinedWord text old = old
-wroteOver TooShort text old = old
-
 unfoldable pub bytesAfter : Profile → ℕ → List ℕ → List ℕ
-bytesAfter P w old = wroteOver (disassembleWordOf P w (length old)) (opLineOf P w) old
+bytesAfter P w old = cond (eqb (disassembleWordOf P w (length old) .number) 0) (over (opLineOf P w) old) old

@@ -2,7 +2,7 @@
 use op_lines::WordLine;
 use op_lines::WordWritten;
 ghost use mathlib.Core.Path.{_≡_};
-ghost use Rattle.op_lines.specs.Lines.{answerOf, writtenNumber};
+ghost use Rattle.op_lines.specs.Lines.{answerOf, writtenOf};
 
 pub fn op_line_number_of(read: WordLine) -> u16
     ensures { λ r. ⌜ r ≡ answerOf read .number ⌝ }
@@ -16,7 +16,7 @@ pub fn op_line_number_of(read: WordLine) -> u16
 }
 
 pub fn written_line_number_of(written: WordWritten) -> u16
-    ensures { λ r. ⌜ r ≡ writtenNumber written ⌝ }
+    ensures { λ r. ⌜ r ≡ writtenOf written .number ⌝ }
 {
     match written {
         WordWritten::Length(_) => 0,

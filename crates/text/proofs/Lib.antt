@@ -6,3 +6,4 @@ pub mod Numbers
 pub mod Numerals
 pub mod Puts
 pub mod Theorems
+pub mod Cases

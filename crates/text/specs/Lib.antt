@@ -3,3 +3,4 @@ pub mod Number
 pub mod Put
 pub mod Theorems
 pub mod internal
+pub mod Cases

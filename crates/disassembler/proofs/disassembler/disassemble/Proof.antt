@@ -8,8 +8,7 @@ use Rattle.text.proofs.Puts.{put-front}
 use Rattle.word.specs.Profile.{LP5523}
 use Rattle.plan.specs.declared.Verdict.the-variants.{Accept}
 use Rattle.plan.proofs.Laws.{not-accept}
-use Rattle.asm.specs.declared.Disassembled.the-variants.{Length}
-use Rattle.asm.specs.Writing.{sheetOf, writableOf}
+use Rattle.asm.specs.Writing.{sheetOf, writableOf, wrote}
 use Rattle.asm.proofs.Writable.{writable-exactly}
 use Rattle.disassembler.proofs.SheetText.{refused, no-room, with-room}
 use Rattle.disassembler.proofs.disassembler.disassemble.Statement.{statement}
@@ -43,4 +42,4 @@ disassemble-spec =
     let a = t .before .before .before .before .before .args in
     let z : m .put-sheet .result ≡ length (sheetOf LP5523 (a .plan) (a .image .now)) = omega (arith, m .put-sheet .ensures .place) in
     let e = with-room LP5523 (a .plan) (a .image .now) (a .out .now) (accepted t) (omega (arith, z)) in
-    (ap Length z ∙ e .0, put-front (c .before .before .put-sheet2 .ensures) (omega (arith, z)) ∙ e .1)))
+    (ap wrote z ∙ e .0, put-front (c .before .before .put-sheet2 .ensures) (omega (arith, z)) ∙ e .1)))

@@ -11,7 +11,7 @@ use Rattle.text.specs.Bytes.{same}
 use Rattle.grammar.specs.Form.{placeOf}
 use Rattle.grammar.specs.internal.Tables.{nameCount, names}
 use Rattle.grammar.proofs.Tables.{in-table, next-in-table, scaled, nameBytes, nameAt, name-starts, name-ends, name-fits, name-is}
-use Rattle.line_reader.proofs.Walk.{keywordsFrom, place-step, place-end}
+use Rattle.grammar.proofs.Walk.{keywordsFrom, place-step, place-end}
 use Rattle.line_reader.proofs.keywords.place_of.Statement.{statement}
 use Rattle.line_reader.proofs.keywords.place_of.Tie as tie
 

@@ -1,9 +1,8 @@
 -- `line_reader::kinds::read_value` meets its contract.
-use Prim.Native.Nat.{ℕ, _-_, _≤_, _<_}
+use Prim.Native.Nat.{_-_, _<_}
 use mathlib.Core.Path.{sym, _∙_}
-use native.Mathlib.Omega.{arith}
-use Rattle.grammar.specs.internal.Tables.{numberKinds, kindCount}
-use Rattle.grammar.proofs.Tables.{keywordFirst, keywordCount, keywords-within, first-fits, count-fits}
+use Rattle.grammar.specs.internal.Tables.{numberKinds}
+use Rattle.grammar.proofs.Tables.{keywordFirst, keywordCount, keywords-within, first-fits, count-fits, listed}
 use Rattle.grammar.proofs.Ranges.{number-value, keyword-value}
 use Rattle.line_reader.proofs.kinds.read_value.Statement.{statement}
 use Rattle.line_reader.proofs.kinds.read_value.Tie as tie
@@ -12,10 +11,6 @@ returns : tie.Need-returns
 returns c =
     let a = c .before .before .before .args in
     c .number-of .ensures ∙ sym (number-value (a .kind) (a .v .now) (c .before .if1 .taken))
-
--- a kind that is none of numbers has its keywords in the tables
-listed : {k : ℕ} → k < kindCount → numberKinds ≤ k → k - numberKinds < 4
-listed h l = omega arith
 
 at : (c : tie.Else1) → c .before .before .args .kind - numberKinds < 4
 at c = listed (c .before .before .pre) (c .if1 .left)

@@ -9,7 +9,7 @@ use Rattle.grammar.specs.declared.LineRead.the-variants.{Refused}
 use Rattle.grammar.specs.Form.{Reading, refused}
 use Rattle.grammar.specs.Values.{lineReadOf}
 use Rattle.grammar.specs.internal.Tables.{beforeRead}
-use Rattle.line_reader.proofs.Walk.{part-ends, read-before, form-done, form-short, form-stops, form-goes}
+use Rattle.grammar.proofs.Walk.{part-ends, read-before, form-done, form-short, form-stops, form-goes}
 use Rattle.line_reader.proofs.pairs.read_pairs.Reads as read-pairs
 use Rattle.line_reader.proofs.pairs.read_pairs.Kinds as read-pairs-kinds
 use Rattle.line_reader.proofs.pairs.read_pair.Reads as read-pair-reads

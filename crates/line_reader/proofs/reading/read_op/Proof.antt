@@ -12,7 +12,7 @@ use Rattle.grammar.specs.Form.{readKeyword}
 use Rattle.grammar.specs.Grammar.{readOp, named}
 use Rattle.grammar.specs.Values.{lineReadOf}
 use Rattle.grammar.specs.internal.Tables.{opCount, partsFrom, beforeRead}
-use Rattle.line_reader.proofs.Walk.{keywordsFrom, read-before, op-line, op-small, op-stops, op-goes}
+use Rattle.grammar.proofs.Walk.{keywordsFrom, read-before, op-line, op-small, op-stops, op-goes}
 use Rattle.line_reader.proofs.reading.read_op.Statement.{statement}
 use Rattle.line_reader.proofs.reading.read_op.Tie as tie
 

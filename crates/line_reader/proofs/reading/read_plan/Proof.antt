@@ -3,7 +3,7 @@ use mathlib.Core.Path.{sym, ap, _∙_}
 use borrow.Author.Needs.{needs}
 use Rattle.grammar.specs.Values.{lineReadOf}
 use Rattle.grammar.specs.internal.Tables.{beforeRead}
-use Rattle.line_reader.proofs.Walk.{read-before, plan-line}
+use Rattle.grammar.proofs.Walk.{read-before, plan-line}
 use Rattle.line_reader.proofs.reading.read_plan.Statement.{statement}
 use Rattle.line_reader.proofs.reading.read_plan.Tie as tie
 

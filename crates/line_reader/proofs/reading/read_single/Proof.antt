@@ -8,7 +8,7 @@ use Rattle.word.specs.Field.{upto}
 use Rattle.grammar.specs.Form.{held}
 use Rattle.grammar.specs.Values.{lineReadOf}
 use Rattle.grammar.specs.internal.Tables.{beforeRead}
-use Rattle.line_reader.proofs.Walk.{read-before, single-form}
+use Rattle.grammar.proofs.Walk.{read-before, single-form}
 use Rattle.line_reader.proofs.reading.read_single.Statement.{statement}
 use Rattle.line_reader.proofs.reading.read_single.Tie as tie
 

@@ -7,7 +7,7 @@ use borrow.Author.Tests.{not-true, not-false}
 use lib.ListN.{length}
 use Rattle.grammar.specs.Form.{allPairs}
 use Rattle.grammar.specs.internal.Tables.{partsFrom}
-use Rattle.line_reader.proofs.Walk.{part-ends, all-step, all-end}
+use Rattle.grammar.proofs.Walk.{part-ends, all-step, all-end}
 use Rattle.line_reader.proofs.shapes.all_pairs.Statement.{statement}
 use Rattle.line_reader.proofs.shapes.all_pairs.Tie as tie
 

@@ -1,7 +1,7 @@
 -- `line_reader::shapes::at_end` meets its contract.
 use mathlib.Core.Path.{sym, ap}
 use Rattle.grammar.specs.Values.{valuesOf, lineReadOf}
-use Rattle.line_reader.proofs.Walk.{more-left, none-left}
+use Rattle.grammar.proofs.Walk.{more-left, none-left}
 use Rattle.line_reader.proofs.shapes.at_end.Statement.{statement}
 use Rattle.line_reader.proofs.shapes.at_end.Tie as tie
 

@@ -1,19 +1,20 @@
 -- `line_reader::shapes::stopped` meets its contract.
 use Prim.Native.Nat.{ℕ}
 use mathlib.Core.List.{List}
-use mathlib.Core.Path.{_≡_, refl, sym, ap, _∙_}
+use mathlib.Core.Path.{refl, sym, _∙_}
 use borrow.Author.Needs.{needs}
+use Rattle.laws.proofs.Matches.{via}
 use Rattle.grammar.specs.declared.Value.{Value}
 use Rattle.grammar.specs.declared.LineRead.{LineRead}
 use Rattle.grammar.specs.Values.{lineReadOf}
 use Rattle.grammar.specs.internal.Tables.{partsFrom, beforeRead, stoppedBy}
-use Rattle.line_reader.proofs.Walk.{read-before}
+use Rattle.grammar.proofs.Walk.{read-before}
 use Rattle.line_reader.proofs.shapes.stopped.Statement.{statement}
 use Rattle.line_reader.proofs.shapes.stopped.Tie as tie
 
--- what is given for the value that was told
-arm : (k : ℕ) (ps : List (List ℕ)) {v w : Value} {o : LineRead} → v ≡ w → o ≡ lineReadOf (stoppedBy k w ps) → o ≡ lineReadOf (stoppedBy k v ps)
-arm k ps e h = h ∙ ap (λ (x : Value). lineReadOf (stoppedBy k x ps)) (sym e)
+-- what a value gives before some parts
+abbrev given : ℕ → List (List ℕ) → Value → LineRead
+given k ps v = lineReadOf (stoppedBy k v ps)
 
 returns : tie.Need-returns
 unfolding stoppedBy
@@ -21,20 +22,21 @@ returns c =
     let t = c .before .before in
     let a = t .before .before .before .args in
     let told = t .enum-told .given .1 in
-    arm (a .number) (partsFrom (a .at) (a .line .now)) told
+    via (given (a .number) (partsFrom (a .at) (a .line .now)))
     (c .before2 .ensures ∙ (λ i. beforeRead (told i) (c .before .at-end .ensures i)) ∙ sym (read-before _ _))
+    told
 
 returns-2 : tie.Need-returns-2
 unfolding lineReadOf stoppedBy
 returns-2 c =
     let a = c .before .before .before .args in
-    arm (a .number) (partsFrom (a .at) (a .line .now)) (c .enum-told2 .given .1) refl
+    via (given (a .number) (partsFrom (a .at) (a .line .now))) refl (c .enum-told2 .given .1)
 
 returns-3 : tie.Need-returns-3
 unfolding stoppedBy
 returns-3 c =
     let a = c .before .before .before .before .args in
-    arm (a .number) (partsFrom (a .at) (a .line .now)) (c .before .enum-told3 .given .1) (c .unknown .ensures)
+    via (given (a .number) (partsFrom (a .at) (a .line .now))) (c .unknown .ensures) (c .before .enum-told3 .given .1)
 
 pub stopped-spec : {M : Type 1} → statement M
 stopped-spec =

@@ -6,15 +6,11 @@ use borrow.Author.Needs.{needs, fits-under}
 use lib.ListN.{getD}
 use mir.Syntax.{w64}
 use Rattle.text.proofs.Puts.{put-nil, put-is}
-use Rattle.grammar.specs.internal.Tables.{nameCount, numberKinds, kindCount}
-use Rattle.grammar.proofs.Tables.{keywordFirst, keywordCount, keywords-within, first-fits, count-fits}
+use Rattle.grammar.specs.internal.Tables.{nameCount, numberKinds}
+use Rattle.grammar.proofs.Tables.{keywordFirst, keywordCount, keywords-within, first-fits, count-fits, listed}
 use Rattle.line_writer.proofs.Written.{number-text, keyword-name, keyword-none}
 use Rattle.line_writer.proofs.kinds.put_value.Statement.{statement}
 use Rattle.line_writer.proofs.kinds.put_value.Tie as tie
-
--- a kind that is none of numbers has its keywords in the tables
-listed : {k : ℕ} → k < kindCount → numberKinds ≤ k → k - numberKinds < 4
-listed h l = omega arith
 
 named : (a b n : ℕ) → a + b ≤ nameCount → n < b → a + n < nameCount
 named a b n h l = omega arith

@@ -9,8 +9,7 @@ use Rattle.text.proofs.Puts.{put-front}
 use Rattle.word.specs.Profile.{LP5523}
 use Rattle.word.specs.Decode.{decodeOf}
 use Rattle.word.specs.Classes.{isUndefined}
-use Rattle.op_lines.specs.declared.WordWritten.the-variants.{Length}
-use Rattle.op_lines.specs.Lines.{opLineOf}
+use Rattle.op_lines.specs.Lines.{opLineOf, wrote}
 use Rattle.op_lines.proofs.Room.{undefined, no-room, with-room}
 use Rattle.op_codec.proofs.writing.disassemble_word.Statement.{statement}
 use Rattle.op_codec.proofs.writing.disassemble_word.Tie as tie
@@ -45,4 +44,4 @@ disassemble-word-spec =
     let a = f .before .before .before .before .args in
     let z : m .put-op-line .result ≡ length (opLineOf LP5523 (a .code)) = omega (arith, m .put-op-line .ensures .place) in
     let e = with-room (a .code) (a .out .now) (said (f .before) (f .if1 .left)) (omega (arith, z)) in
-    (ap Length z ∙ e .0, put-front (c .before .before .put-op-line2 .ensures) (omega (arith, z)) ∙ e .1)))
+    (ap wrote z ∙ e .0, put-front (c .before .before .put-op-line2 .ensures) (omega (arith, z)) ∙ e .1)))
