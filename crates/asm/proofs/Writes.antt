@@ -1,16 +1,15 @@
 -- The writer's answers: the text, the first objection, or no room.
 use Prim.Native.Nat.{ℕ, _≤_, _<_}
 use mathlib.Core.Bool.{Bool, true, false, cond, true≢false}
-use mathlib.Core.List.{List, [], _∷_, _++_}
-use mathlib.Core.Logic.{_⊎_, inl, inr}
-use mathlib.Core.Path.{_≡_, refl, sym, ap, subst, _∙_}
+use mathlib.Core.List.{List, _∷_}
+use mathlib.Core.Logic.{_↔_, _⊎_, inl, inr}
+use mathlib.Core.Path.{_≡_, sym, ap, subst, _∙_}
 use native.Mathlib.Omega.{arith}
 use borrow.Author.Tests.{le-leb, lt-leb, leb-true, leb-false, eq-eqb, ne-eqb}
 use lib.Dec.{eqb, leb}
 use lib.ListN.{length, length-append}
 use Rattle.laws.proofs.Tests.{by-test}
 use Rattle.word.specs.Profile.{Profile, LP5523}
-use Rattle.word.specs.Steps.{addressAt}
 use Rattle.plan.specs.declared.Plan.{Plan}
 use Rattle.plan.specs.declared.Report.{Report}
 use Rattle.plan.specs.declared.Verdict.{Verdict}
@@ -18,44 +17,16 @@ use Rattle.plan.specs.declared.Verdict.the-variants.{Accept, WrongLength, Inval
 use Rattle.plan.specs.Verdict.{report, reportOf, isAccept}
 use Rattle.plan.specs.Conditions.{Condition}
 use Rattle.plan.specs.Tests.{holds}
-use Rattle.plan.specs.Check.{firstFailing}
 use Rattle.plan.proofs.Laws.{is-accept}
-use Rattle.plan.proofs.First.{FirstIn, first-splits}
+use Rattle.plan.proofs.First.{First, first-exactly, splits, placed}
+use Rattle.plan.proofs.Reports.{reports-distinct}
 use Rattle.plan.proofs.Tests.{tests-exactly}
 use Rattle.plan.proofs.Theorems.{accepts-exactly}
 use Rattle.text.specs.Bytes.{lineFeed}
 use Rattle.op_lines.specs.Lines.{over}
-use Rattle.asm.specs.Writing.{planLines, wordLines, ended, sheetOf, objectionsTo, writableOf, Written, wrote, unwritten, disassembleOf, bytesAfter}
-use Rattle.asm.specs.Theorems.{Sound, FirstObjection, Writes, WritesExactly, AcceptedWritten}
-use Rattle.asm.proofs.Ranges.{first-later}
-use Rattle.asm.proofs.Writable.{all-met, writable-exactly}
-
--- ---- a verdict is told by its report
-
-abbrev verdictOf : Report → Verdict
-verdictOf r =
-    cond (eqb (r .number) 9) WrongLength
-    (cond (eqb (r .number) 11) (InvalidRange (r .engine))
-    (cond (eqb (r .number) 12) (CodeOverlapsTable (r .engine))
-    (cond (eqb (r .number) 13) (UndefinedWord (r .engine) (addressAt (r .address)))
-    (cond (eqb (r .number) 14) (SuccessorOutside (r .engine) (addressAt (r .address)))
-    (cond (eqb (r .number) 15) (TableMisused (r .engine) (addressAt (r .address)))
-    (cond (eqb (r .number) 16) (TableNotOpened (r .engine) (addressAt (r .address)))
-    (cond (eqb (r .number) 17) (ReservedRowBit (r .engine) (addressAt (r .address))) Accept)))))))
-
-verdict-again : (v : Verdict) → verdictOf (reportOf v) ≡ v
-verdict-again Accept = refl
-verdict-again WrongLength = refl
-verdict-again (InvalidRange i) = refl
-verdict-again (CodeOverlapsTable i) = refl
-verdict-again (UndefinedWord i a) = refl
-verdict-again (SuccessorOutside i a) = refl
-verdict-again (TableMisused i a) = refl
-verdict-again (TableNotOpened i a) = refl
-verdict-again (ReservedRowBit i a) = refl
-
-same-verdict : (v w : Verdict) → reportOf v ≡ reportOf w → v ≡ w
-same-verdict v w e = sym (verdict-again v) ∙ ap verdictOf e ∙ verdict-again w
+use Rattle.asm.specs.Writing.{planLines, ended, sheetOf, objectionsTo, writableOf, Written, wrote, unwritten, disassembleOf, bytesAfter}
+use Rattle.asm.specs.Theorems.{Sound, FirstObjection, WritesExactly, AcceptedWritten}
+use Rattle.asm.proofs.Writable.{writable-exactly}
 
 -- 0 is no refusal, and 24 is the writer's own
 low-number : (v : Verdict) → (reportOf v .number ≤ 17) × (isAccept v ≡ false → reportOf v .number ≡ 0 → ⊥)
@@ -137,18 +108,17 @@ module _ (P : Profile) (p : Plan) (image : List ℕ) (room : ℕ) where
       let l = low-number (writableOf P p image) .0 in
       absurd (omega arith)
 
-  -- the first that fails, by the tests and by the conditions
-  first-objection : (v : Verdict) → FirstIn (holds P p image) (objectionsTo P p) v → FirstObjection P p image v
-  first-objection v s = record {
-    before = s .before;
-    after = s .after;
-    place = s .place;
-    earlier = all-met P p image (s .before) .0 (s .earlier);
-    fails = λ c. true≢false (sym (tests-exactly P p image v .1 c) ∙ s .fails);
-  }
+  -- the answer other than Accept is the first of the objections whose condition is not met
+  first-exact : (v : Verdict) → (v ≡ Accept → ⊥) → (writableOf P p image ≡ v) ↔ First (Condition P p image) v (objectionsTo P p)
+  unfolding writableOf
+  first-exact v n = first-exactly (holds P p image) (Condition P p image) (tests-exactly P p image) v n (objectionsTo P p)
+
+  first-objection : (v : Verdict) → (v ≡ Accept → ⊥) → writableOf P p image ≡ v → FirstObjection P p image v
+  first-objection v n e =
+      let s = splits (Condition P p image) v (objectionsTo P p) (first-exact v n .0 e) in
+      record { before = s .before; after = s .after; place = s .place; earlier = s .earlier; fails = s .fails }
 
   refused-told : (v : Verdict) → Answer P p image room → disassembleOf P p image room ≡ unwritten (reportOf v) → FirstObjection P p image v
-  unfolding writableOf
   refused-told v (written e l a) h =
       let z = ap (λ (w : Written). w .size) (sym a ∙ h) in
       let s = some-text P p image in
@@ -158,18 +128,13 @@ module _ (P : Profile) (p : Plan) (image : List ℕ) (room : ℕ) where
       let l = low-number v .0 in
       absurd (omega arith)
   refused-told v (refused f a) h =
-      let e : writableOf P p image ≡ v = same-verdict (writableOf P p image) v (ap reportIn (sym a ∙ h)) in
-      first-objection v (first-splits (holds P p image) (objectionsTo P p) v e (λ z. true≢false (sym (ap isAccept (e ∙ z)) ∙ f)))
-
-  failing : (v : Verdict) → FirstObjection P p image v → holds P p image v ≡ false
-  failing v s = by-test (holds P p image v) (λ h. absurd (s .fails (tests-exactly P p image v .0 h))) (λ h. h)
+      let e : writableOf P p image ≡ v = reports-distinct (writableOf P p image) v (ap reportIn (sym a ∙ h)) in
+      first-objection v (λ z. true≢false (sym (ap isAccept (e ∙ z)) ∙ f)) e
 
   objection-is : (v : Verdict) → FirstObjection P p image v → writableOf P p image ≡ v
-  unfolding writableOf firstFailing
   objection-is v s =
-      ap (firstFailing (holds P p image)) (s .place)
-      ∙ first-later (holds P p image) (s .before) (v ∷ s .after) (all-met P p image (s .before) .1 (s .earlier))
-      ∙ ap (λ (b : Bool). cond b (firstFailing (holds P p image) (s .after)) v) (failing v s)
+      first-exact v (λ z. s .fails (subst (Condition P p image) (sym z) tt)) .1
+      (subst (First (Condition P p image) v) (sym (s .place)) (placed (Condition P p image) v (s .before) (s .after) (s .earlier) (s .fails)))
 
   refused-given : (v : Verdict) → FirstObjection P p image v → disassembleOf P p image room ≡ unwritten (reportOf v)
   refused-given v s =
