@@ -78,7 +78,7 @@ rangeCases =
     -- the last word of the memory, and one past it
     case (engines Unused Unused (code 95 95)) (beginning []) (report 0 0 0) ∷
     case (engines Unused Unused (code 95 96)) (beginning []) (report 11 3 0) ∷
-    -- a top below the bottom; a bottom past the memory
+    -- top=24 bottom=23; a bottom past the memory
     case (engines (codeAndTable 0 7 24 23) Unused Unused) tableImage (report 11 1 0) ∷
     case (engines (codeAndTable 0 7 95 96) Unused Unused) tableImage (report 11 1 0) ∷
     -- the lowest engine that fails; 11 before 12
@@ -122,11 +122,11 @@ wordCases =
     case (alone 2) (beginning (0x8820 ∷ 0x40FF ∷ 0xC000 ∷ [])) (report 14 1 0) ∷
     case (alone 1) (beginning (0x8800 ∷ 0xC000 ∷ [])) (report 0 0 0) ∷
     case (alone 1) (beginning (0x40FF ∷ 0x8800 ∷ [])) (report 14 1 1) ∷
-    -- map-start and ld-start address=21, below the top; ld-start address=20
+    -- map-start and ld-start address=21, not the top; ld-start address=20, the top
     case tablePlan (set tableImage 0 0x9C15) (report 15 1 0) ∷
     case tablePlan (set tableImage 0 0x9E15) (report 15 1 0) ∷
     case tablePlan (set tableImage 0 0x9E14) (report 0 0 0) ∷
-    -- ld-end address=22, above the bottom
+    -- ld-end address=22, not the bottom
     case tablePlan (set tableImage 1 0x9C96) (report 15 1 1) ∷
     -- map-addr address=24, one past the bottom, 23, 20, and 19, one before the top; the same of ld-addr
     case tablePlan (set tableImage 6 0x9F98) (report 15 1 6) ∷
@@ -173,7 +173,7 @@ tableCases =
     case tablePlan (set tableImage 20 0x0400) (report 17 1 20) ∷
     case tablePlan (set tableImage 25 0x2000) (report 17 2 25) ∷
     case tablePlan (set tableImage 22 0x1000) (report 17 1 22) ∷
-    -- no row
+    -- address 26 is no row
     case tablePlan (set tableImage 26 0xFFFF) (report 0 0 0) ∷ []
 
 -- The checker's answers to some cases.

@@ -63,7 +63,9 @@ pub record BeforeWord (P : Profile) (p : Plan) (image : List ℕ) (i a : ℕ) : 
   pub engine : BeforeEngine P p image i
   pub words : WordsMetBefore P image (planAt P p i) a
 
+-- When each number is given, with its engine and address.
 abbrev pub Reported : Profile → Plan → List ℕ → Verdict → Type 0
+-- 0
 Reported P p image Accept = Accepted P p image
 -- 9
 Reported P p image WrongLength = Complete P image → ⊥

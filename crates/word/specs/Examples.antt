@@ -35,15 +35,15 @@ pub record Sample : Type 0 where
 abbrev pub sample : Word → ℕ → Flow → TableUse → Sample
 sample i w f u = record { word = i; code = w; flow = f; tableUse = u }
 
--- A word after which the next one follows, and which leaves the table's pointers as they are.
+-- The next word follows, and the table's pointers stay as they are.
 abbrev pub plain : Word → ℕ → Sample
 plain i w = sample i w Next Nothing
 
--- A word of no table.
+-- The table's pointers stay as they are.
 abbrev pub going : Word → ℕ → Flow → Sample
 going i w f = sample i w f Nothing
 
--- A word of the table.
+-- The next word follows.
 abbrev pub mux : Word → ℕ → TableUse → Sample
 mux i w u = sample i w Next u
 
