@@ -13,7 +13,8 @@ use Rattle.word.specs.Profile.{Profile, wordsOf}
 use Rattle.plan.specs.declared.Plan.{Plan}
 use Rattle.asm.specs.Reading.{Sheet, program, refused-at, readSheet, assembleOf}
 use Rattle.asm.specs.Theorems.{Exactly, RefusesExactly}
-use Rattle.asm.specs.Conditions.{Line, linesOf, planSaid, lineCount, GoodTo, FirstBad, GoodLines, PlanValid, PlanDisjoint}
+use Rattle.plan.specs.Reports.{AllValid, AllDisjoint}
+use Rattle.asm.specs.Conditions.{Line, linesOf, planSaid, lineCount, GoodTo, FirstBad, GoodLines}
 use Rattle.asm.specs.Answers.{numberIn, lineIn}
 use Rattle.asm.proofs.LineNumbers.{numberAt, bad-at}
 use Rattle.asm.proofs.Steps.{never}
@@ -80,7 +81,7 @@ module _ (P : Profile) (ls : List Line) where
 
     -- 11
     abbrev Invalid : Type 0
-    Invalid = GoodLines P ls × (PlanValid P (planSaid P ls) → ⊥)
+    Invalid = GoodLines P ls × (AllValid P (planSaid P ls) → ⊥)
 
     invalid-told : Outcome P ls r → r ≡ refused-at 11 0 → Invalid
     invalid-told (bad j m f e) h = absurd (other-line e h (λ z. omega arith))
@@ -98,7 +99,7 @@ module _ (P : Profile) (ls : List Line) where
 
     -- 12
     abbrev Overlap : Type 0
-    Overlap = GoodLines P ls × PlanValid P (planSaid P ls) × (PlanDisjoint P (planSaid P ls) → ⊥)
+    Overlap = GoodLines P ls × AllValid P (planSaid P ls) × (AllDisjoint P (planSaid P ls) → ⊥)
 
     overlap-told : Outcome P ls r → r ≡ refused-at 12 0 → Overlap
     overlap-told (bad j m f e) h = absurd (other-line e h (λ z. omega arith))
@@ -124,7 +125,7 @@ module _ (P : Profile) (ls : List Line) where
 
     -- what is read
     read-told : Outcome P ls r → (p : Plan) (image : List ℕ) → r ≡ program p image
-        → GoodLines P ls × PlanValid P (planSaid P ls) × PlanDisjoint P (planSaid P ls)
+        → GoodLines P ls × AllValid P (planSaid P ls) × AllDisjoint P (planSaid P ls)
     read-told (bad j m f e) p image h = absurd (never (sym e ∙ h))
     read-told (miscounted g d e) p image h = absurd (never (sym e ∙ h))
     read-told (invalid-range g o e) p image h = absurd (never (sym e ∙ h))

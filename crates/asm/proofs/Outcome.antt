@@ -22,7 +22,8 @@ use Rattle.grammar.specs.Grammar.{readLine}
 use Rattle.asm.specs.Places.{lineKindAt}
 use Rattle.asm.specs.PlanLines.{planOf, enginePlanOf}
 use Rattle.asm.specs.Reading.{Sheet, program, refused-at, ranged, closed, withValues, withWord, readWordLine, readWords, readPlans, readSheet}
-use Rattle.asm.specs.Conditions.{Line, whole, cut, linesIn, linesOf, planIn, plansIn, planSaid, lineCount, GoodTo, FirstBad, PlanValid, PlanDisjoint, GoodLines}
+use Rattle.plan.specs.Reports.{AllValid, AllDisjoint}
+use Rattle.asm.specs.Conditions.{Line, whole, cut, linesIn, linesOf, planIn, plansIn, planSaid, lineCount, GoodTo, FirstBad, GoodLines}
 use Rattle.asm.proofs.LineNumbers.{refusalOf, plain-number, numberAt}
 use Rattle.asm.proofs.Reached.{drop-none, drop-within, Reached, plan-number, word-number, next, first-bad}
 use Rattle.asm.proofs.Ranges.{Ranged, fine, not-valid, not-disjoint, ranged-cases}
@@ -32,9 +33,9 @@ use Rattle.asm.proofs.Proper.{Proper, line-proper}
 pub data Outcome (P : Profile) (ls : List Line) (r : Sheet) : Type 0 where
   bad : (k n : ℕ) → FirstBad P ls k n → r ≡ refused-at n (k + 1) → Outcome P ls r
   miscounted : GoodTo P ls (lineCount P) → (length ls ≡ lineCount P → ⊥) → r ≡ refused-at 23 0 → Outcome P ls r
-  invalid-range : GoodLines P ls → (PlanValid P (planSaid P ls) → ⊥) → r ≡ refused-at 11 0 → Outcome P ls r
-  code-overlaps-table : GoodLines P ls → PlanValid P (planSaid P ls) → (PlanDisjoint P (planSaid P ls) → ⊥) → r ≡ refused-at 12 0 → Outcome P ls r
-  is-read : GoodLines P ls → PlanValid P (planSaid P ls) → PlanDisjoint P (planSaid P ls) → (p : Plan) (ws : List ℕ) → r ≡ program p ws → Outcome P ls r
+  invalid-range : GoodLines P ls → (AllValid P (planSaid P ls) → ⊥) → r ≡ refused-at 11 0 → Outcome P ls r
+  code-overlaps-table : GoodLines P ls → AllValid P (planSaid P ls) → (AllDisjoint P (planSaid P ls) → ⊥) → r ≡ refused-at 12 0 → Outcome P ls r
+  is-read : GoodLines P ls → AllValid P (planSaid P ls) → AllDisjoint P (planSaid P ls) → (p : Plan) (ws : List ℕ) → r ≡ program p ws → Outcome P ls r
 
 module _ (P : Profile) (ls : List Line) where
   -- a line has to follow, and none does

@@ -22,7 +22,8 @@ use Rattle.asm.specs.Writing.{planLines, wordLines, ended, sheetOf, wrot
 use Rattle.asm.specs.Theorems.{SheetAgain, ProgramAgain, Sound, ReadsSound}
 use Rattle.asm.proofs.Each.{Each, each-at, each-of}
 use Rattle.asm.proofs.Codes.{code-kind}
-use Rattle.asm.proofs.Writable.{ranges-exactly, writable-exactly}
+use Rattle.plan.proofs.Exactly.{ranges-accepted}
+use Rattle.asm.proofs.Writable.{writable-exactly}
 use Rattle.asm.proofs.Writes.{given-room, writes-exactly}
 use Rattle.asm.proofs.WordLaws.{word-line-back}
 use Rattle.asm.proofs.Steps.{never}
@@ -73,7 +74,7 @@ sheet-read P text image p words e =
 pub reads-sound : ReadsSound
 reads-sound P text image p words e =
     let r = sheet-read P text image p words e in
-    let o = ranges-exactly P p .0 (r .ranges) in
+    let o = ranges-accepted P p .0 (r .ranges) in
     record {
       words = r .count;
       validRanges = o .0;
@@ -109,7 +110,7 @@ pub program-again : ProgramAgain
 unfolding assembleOf readSheet sheetOf
 program-again P image p room n small e =
     let s = writes-exactly P p image room .isWritten n .0 e .0 in
-    let ranges = ranges-exactly P p .1 (s .validRanges, s .disjoint) in
+    let ranges = ranges-accepted P p .1 (s .validRanges, s .disjoint) in
     let back = words-back P image p small s in
     rw (eq-eqb (wordsOf P) (wordsOf P) refl)
     (subst (λ (n : ℕ). readPlans P n 1 [] (split lineFeed (sheetOf P p image)) ≡ program p image) (plans-count P p .0)

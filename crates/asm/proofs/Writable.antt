@@ -1,6 +1,5 @@
 -- The writer objects to nothing exactly where 9, 11, 12 and 13 are met, which is what is promised of a sheet that is read.
 use Prim.Native.Nat.{ℕ}
-use mathlib.Core.Bool.{true}
 use mathlib.Core.List.{List, [], _∷_, map, _++_}
 use mathlib.Core.Logic.{_↔_, Iff·trans}
 use mathlib.Core.Path.{_≡_, refl, sym, ap, subst}
@@ -12,13 +11,13 @@ use Rattle.plan.specs.declared.Verdict.{Verdict}
 use Rattle.plan.specs.declared.Verdict.the-variants.{Accept, InvalidRange, CodeOverlapsTable, UndefinedWord}
 use Rattle.plan.specs.Ranges.{planAt, InCode, codeAddresses}
 use Rattle.word.specs.Decode.{wordAt}
-use Rattle.plan.specs.Conditions.{ValidRanges, CodeDisjoint, Defined, AllIn, Condition}
+use Rattle.plan.specs.Conditions.{Defined, AllIn, Condition}
 use Rattle.plan.specs.Tests.{holds}
-use Rattle.plan.specs.Check.{engineNumbers, joined, firstFailing, checkRangesOf}
+use Rattle.plan.specs.Check.{engineNumbers, joined, firstFailing}
 use Rattle.plan.specs.Theorems.{AllOf}
-use Rattle.plan.proofs.First.{allHold, first-none, first-all}
-use Rattle.plan.proofs.Tests.{both, tests-exactly}
-use Rattle.plan.proofs.Lists.{all-map, all-given, engine-all, met-append, met-map, met-joined, over-code}
+use Rattle.plan.proofs.First.{first-none, first-all}
+use Rattle.plan.proofs.Theorems.{all-met, valid-met, disjoint-met}
+use Rattle.plan.proofs.Lists.{all-map, all-given, engine-all, met-append, met-joined, over-code}
 use Rattle.asm.specs.Theorems.{Sound}
 use Rattle.asm.specs.Writing.{undefinedAt, objectionsTo, writableOf}
 
@@ -31,26 +30,9 @@ module _ (P : Profile) (p : Plan) (image : List ℕ) where
   abbrev Met : List Verdict → Type 0
   Met vs = AllOf (Condition P p image) vs
 
-  pub all-met : (vs : List Verdict) → (allHold (holds P p image) vs ≡ true) ↔ Met vs
-  all-met [] = (λ e. tt, λ h. refl)
-  all-met (v ∷ vs) = both (holds P p image v) (allHold (holds P p image) vs) (tests-exactly P p image v) (all-met vs)
-
   -- the first failing of a list is none exactly where all conditions are met
-  pub none-fails : (vs : List Verdict) → (firstFailing (holds P p image) vs ≡ Accept) ↔ Met vs
-  none-fails vs = Iff·trans (first-all (holds P p image) refl vs, first-none (holds P p image) vs) (all-met vs)
-
-  -- 11 and 12, of all engines
-  pub valid-met : Met (map InvalidRange (engineNumbers P)) ↔ ((i : ℕ) → Condition P p image (InvalidRange i))
-  valid-met = (
-    λ h. engine-all (ValidRanges P) tt P p (met-map (Condition P p image) InvalidRange (engineNumbers P) .0 h),
-    λ h. met-map (Condition P p image) InvalidRange (engineNumbers P) .1 (all-given h (engineNumbers P)),
-  )
-
-  pub disjoint-met : Met (map CodeOverlapsTable (engineNumbers P)) ↔ ((i : ℕ) → Condition P p image (CodeOverlapsTable i))
-  disjoint-met = (
-    λ h. engine-all (CodeDisjoint P p) (λ i a c. absurd c) P p (met-map (Condition P p image) CodeOverlapsTable (engineNumbers P) .0 h),
-    λ h. met-map (Condition P p image) CodeOverlapsTable (engineNumbers P) .1 (all-given h (engineNumbers P)),
-  )
+  none-fails : (vs : List Verdict) → (firstFailing (holds P p image) vs ≡ Accept) ↔ Met vs
+  none-fails vs = Iff·trans (first-all (holds P p image) refl vs, first-none (holds P p image) vs) (all-met P p image vs)
 
   -- 13, of one engine and of all
   abbrev AllDefined : EnginePlan → Type 0
@@ -88,11 +70,11 @@ module _ (P : Profile) (p : Plan) (image : List ℕ) where
     λ h.
         let s = met-append (Condition P p image) (invalid ++ overlapping) words .0 (h .1) in
         let t = met-append (Condition P p image) invalid overlapping .0 (s .0) in
-        record { words = h .0; validRanges = valid-met .0 (t .0); disjoint = disjoint-met .0 (t .1); defined = engines-defined .0 (s .1) },
+        record { words = h .0; validRanges = valid-met P p image .0 (t .0); disjoint = disjoint-met P p image .0 (t .1); defined = engines-defined .0 (s .1) },
     λ s. (
       s .words,
       met-append (Condition P p image) (invalid ++ overlapping) words .1 (
-        met-append (Condition P p image) invalid overlapping .1 (valid-met .1 (s .validRanges), disjoint-met .1 (s .disjoint)),
+        met-append (Condition P p image) invalid overlapping .1 (valid-met P p image .1 (s .validRanges), disjoint-met P p image .1 (s .disjoint)),
         engines-defined .1 (s .defined),
       ),
     ),
@@ -101,15 +83,3 @@ module _ (P : Profile) (p : Plan) (image : List ℕ) where
   pub writable-exactly : (writableOf P p image ≡ Accept) ↔ Sound P p image
   unfolding writableOf
   writable-exactly = Iff·trans (none-fails (objectionsTo P p)) sound-met
-
--- 11 and 12 by themselves, whatever the image
-pub ranges-exactly : (P : Profile) (p : Plan)
-    → (checkRangesOf P p ≡ Accept) ↔ (((i : ℕ) → Condition P p [] (InvalidRange i)) × ((i : ℕ) → Condition P p [] (CodeOverlapsTable i)))
-unfolding checkRangesOf
-ranges-exactly P p =
-    Iff·trans (none-fails P p [] (invalid P p [] ++ overlapping P p [])) (
-      λ h.
-          let t = met-append (Condition P p []) (invalid P p []) (overlapping P p []) .0 h in
-          (valid-met P p [] .0 (t .0), disjoint-met P p [] .0 (t .1)),
-      λ h. met-append (Condition P p []) (invalid P p []) (overlapping P p []) .1 (valid-met P p [] .1 (h .0), disjoint-met P p [] .1 (h .1)),
-    )

@@ -12,8 +12,6 @@ use Rattle.word.specs.Profile.{Profile, wordsOf, enginesOf}
 use Rattle.plan.specs.declared.EnginePlan.{EnginePlan}
 use Rattle.plan.specs.declared.EnginePlan.the-variants.{Unused}
 use Rattle.plan.specs.declared.Plan.{Plan}
-use Rattle.plan.specs.declared.Verdict.the-variants.{InvalidRange, CodeOverlapsTable}
-use Rattle.plan.specs.Conditions.{Condition}
 use Rattle.grammar.specs.declared.LineKind.{LineKind}
 use Rattle.grammar.specs.declared.LineKind.the-variants as kind
 use Rattle.grammar.specs.Form.{Reading, values, refused}
@@ -99,13 +97,6 @@ pub record FirstBad (P : Profile) (ls : List Line) (k n : ℕ) : Type 0 where
   pub there : k < length ls
   pub before : GoodTo P ls k
   pub bad : BadAt P ls k n
-
--- Not 11, and not 12.
-abbrev pub PlanValid : Profile → Plan → Type 0
-PlanValid P p = (i : ℕ) → Condition P p [] (InvalidRange i)
-
-abbrev pub PlanDisjoint : Profile → Plan → Type 0
-PlanDisjoint P p = (i : ℕ) → Condition P p [] (CodeOverlapsTable i)
 
 -- All lines are good, and there are as many as there have to be.
 abbrev pub GoodLines : Profile → List Line → Type 0

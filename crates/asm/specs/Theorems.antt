@@ -12,13 +12,14 @@ use Rattle.plan.specs.declared.Verdict.the-variants.{Accept, InvalidRange, Code
 use Rattle.plan.specs.Verdict.{report, reportOf}
 use Rattle.plan.specs.Ranges.{planAt, InCode}
 use Rattle.plan.specs.Conditions.{Condition}
+use Rattle.plan.specs.Reports.{AllValid, AllDisjoint}
 use Rattle.plan.specs.Check.{checkOf}
 use Rattle.plan.specs.Theorems.{AllOf}
 use Rattle.word.specs.Steps.{addressAt}
 use Rattle.asm.specs.Places.{lineKindAt, lineOf}
 use Rattle.asm.specs.Reading.{program, refused-at, assembleOf}
 use Rattle.asm.specs.Writing.{sheetOf, objectionsTo, wrote, unwritten, disassembleOf}
-use Rattle.asm.specs.Conditions.{linesOf, planSaid, kindAt, FirstBad, lineCount, GoodTo, GoodLines, PlanValid, PlanDisjoint}
+use Rattle.asm.specs.Conditions.{linesOf, planSaid, kindAt, FirstBad, lineCount, GoodTo, GoodLines}
 
 -- 1. A sheet that is read without refusal is written again as the same bytes, given room.
 abbrev pub SheetAgain : Type 0
@@ -37,7 +38,7 @@ ProgramAgain =
 pub record Exactly (P : Profile) (words : ℕ) (text : List ℕ) : Type 0 where
   pub isRead :
       (p : Plan) (image : List ℕ) → assembleOf P words text ≡ program p image
-      → (words ≡ wordsOf P) × (GoodLines P (linesOf text) × PlanValid P (planSaid P (linesOf text)) × PlanDisjoint P (planSaid P (linesOf text)))
+      → (words ≡ wordsOf P) × (GoodLines P (linesOf text) × AllValid P (planSaid P (linesOf text)) × AllDisjoint P (planSaid P (linesOf text)))
   pub is9 : (assembleOf P words text ≡ refused-at 9 0) ↔ (words ≡ wordsOf P → ⊥)
   pub line : (k n : ℕ) → (assembleOf P words text ≡ refused-at n (k + 1)) ↔ ((words ≡ wordsOf P) × FirstBad P (linesOf text) k n)
   pub is23 :
@@ -45,11 +46,11 @@ pub record Exactly (P : Profile) (words : ℕ) (text : List ℕ) : Type 0 where
       ↔ ((words ≡ wordsOf P) × (GoodTo P (linesOf text) (lineCount P) × (length (linesOf text) ≡ lineCount P → ⊥)))
   pub is11 :
       (assembleOf P words text ≡ refused-at 11 0)
-      ↔ ((words ≡ wordsOf P) × (GoodLines P (linesOf text) × (PlanValid P (planSaid P (linesOf text)) → ⊥)))
+      ↔ ((words ≡ wordsOf P) × (GoodLines P (linesOf text) × (AllValid P (planSaid P (linesOf text)) → ⊥)))
   pub is12 :
       (assembleOf P words text ≡ refused-at 12 0)
       ↔ ((words ≡ wordsOf P)
-      × (GoodLines P (linesOf text) × PlanValid P (planSaid P (linesOf text)) × (PlanDisjoint P (planSaid P (linesOf text)) → ⊥)))
+      × (GoodLines P (linesOf text) × AllValid P (planSaid P (linesOf text)) × (AllDisjoint P (planSaid P (linesOf text)) → ⊥)))
   pub others : (n : ℕ) → assembleOf P words text ≡ refused-at n 0 → (n ≡ 9) ⊎ ((n ≡ 23) ⊎ ((n ≡ 11) ⊎ (n ≡ 12)))
 
 -- 3. The reader's refusals are exactly the paper's.

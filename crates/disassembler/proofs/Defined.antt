@@ -24,7 +24,8 @@ use Rattle.plan.proofs.Passes.{append, three, scanned}
 use Rattle.plan.proofs.Tests.{tests-exactly}
 use Rattle.asm.specs.Writing.{undefinedAt, writableOf}
 use Rattle.disassembler.specs.internal.Walks.{definedFrom, engineDefined, planDefined}
-use Rattle.asm.proofs.Writable.{map-joined, ranges-exactly}
+use Rattle.asm.proofs.Writable.{map-joined}
+use Rattle.plan.proofs.Exactly.{ranges-accepted}
 
 -- the words from a to l: one step of the loop, and its end
 module _ (P : Profile) (i : ℕ) (image : List ℕ) (a l : ℕ) where
@@ -48,7 +49,7 @@ module _ (P : Profile) (i : ℕ) (image : List ℕ) (a l : ℕ) where
 pub ranges-valid : (p : Plan) → checkRangesOf LP5523 p ≡ Accept
     → (validRanges LP5523 (p .engine1) ≡ true) × (validRanges LP5523 (p .engine2) ≡ true) × (validRanges LP5523 (p .engine3) ≡ true)
 ranges-valid p h =
-    let o = ranges-exactly LP5523 p .0 h .0 in (
+    let o = ranges-accepted LP5523 p .0 h .0 in (
       tests-exactly LP5523 p [] (InvalidRange 1) .1 (o 1),
       tests-exactly LP5523 p [] (InvalidRange 2) .1 (o 2),
       tests-exactly LP5523 p [] (InvalidRange 3) .1 (o 3),

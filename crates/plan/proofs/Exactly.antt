@@ -25,25 +25,25 @@ use Rattle.plan.proofs.First.{First, first-none, first-all, first-exact
 use Rattle.plan.proofs.Tests.{tests-exactly}
 use Rattle.plan.proofs.Lists.{met-append}
 use Rattle.plan.proofs.Order.{before-engine, at-code, from-code, at-table, from-table, at-engine, from-engine, at-each, from-each}
-use Rattle.plan.proofs.Theorems.{all-met, wordsPart, rowsPart, words-met, engine-met, unused-met, orders, meetings, engines, valid-met, disjoint-met, ranges-met, accepts-exactly}
+use Rattle.plan.proofs.Theorems.{all-met, wordsPart, rowsPart, words-met, engine-met, unused-met, invalid, overlapping, engines, valid-met, disjoint-met, ranges-met, accepts-exactly}
 
 module _ (P : Profile) (p : Plan) (image : List ℕ) where
   abbrev Met : Verdict → Type 0
   Met = Condition P p image
 
   -- 11 and 12, whatever the image is
-  invalid-at : (i : ℕ) → ValidBefore P p i → (ValidRanges P (planAt P p i) → ⊥) → First Met (InvalidRange i) (orders P p image)
+  invalid-at : (i : ℕ) → ValidBefore P p i → (ValidRanges P (planAt P p i) → ⊥) → First Met (InvalidRange i) (invalid P p image)
   invalid-at = at-each Met InvalidRange (ValidRanges P) tt P p (λ i. Iff·rfl)
 
-  overlap-at : (i : ℕ) → DisjointBefore P p i → (CodeDisjoint P p (planAt P p i) → ⊥) → First Met (CodeOverlapsTable i) (meetings P p image)
+  overlap-at : (i : ℕ) → DisjointBefore P p i → (CodeDisjoint P p (planAt P p i) → ⊥) → First Met (CodeOverlapsTable i) (overlapping P p image)
   overlap-at = at-each Met CodeOverlapsTable (CodeDisjoint P p) (λ i a c. absurd c) P p (λ i. Iff·rfl)
 
   module _ (v : Verdict) where
     ranges-from : {A : Type 0} → ((i : ℕ) → InvalidRange i ≡ v → ValidBefore P p i → (ValidRanges P (planAt P p i) → ⊥) → A)
         → ((i : ℕ) → CodeOverlapsTable i ≡ v → AllValid P p → DisjointBefore P p i → (CodeDisjoint P p (planAt P p i) → ⊥) → A)
-        → First Met v (orders P p image ++ meetings P p image) → A
+        → First Met v (invalid P p image ++ overlapping P p image) → A
     ranges-from c d h =
-        either Met v (orders P p image) (meetings P p image) (from-each Met InvalidRange (ValidRanges P) tt P p (λ i. Iff·rfl) v c)
+        either Met v (invalid P p image) (overlapping P p image) (from-each Met InvalidRange (ValidRanges P) tt P p (λ i. Iff·rfl) v c)
         (λ o. from-each Met CodeOverlapsTable (CodeDisjoint P p) (λ i a c. absurd c) P p (λ i. Iff·rfl) v (λ i e b n. d i e (valid-met P p image .0 o) b n))
         h
 
@@ -77,12 +77,12 @@ module _ (P : Profile) (p : Plan) (image : List ℕ) where
 
     reported-from : First Met v (verdictsOf P p) → Reported P p image v
     reported-from h =
-        one-or Met v WrongLength (orders P p image ++ meetings P p image ++ engines P p image) given
+        one-or Met v WrongLength (invalid P p image ++ overlapping P p image ++ engines P p image) given
         (λ c.
-        either Met v (orders P p image ++ meetings P p image) (engines P p image)
+        either Met v (invalid P p image ++ overlapping P p image) (engines P p image)
         (ranges-from (λ i e b n. given e (c, b, n)) (λ i e o b n. given e (c, o, b, n)))
         (λ m.
-        let t = met-append Met (orders P p image) (meetings P p image) .0 m in
+        let t = met-append Met (invalid P p image) (overlapping P p image) .0 m in
         from-engine Met v (λ i. ofEngine (planAt P p i) i) P p
         (λ i b. engine-from i record {
           complete = c;
@@ -97,7 +97,7 @@ module _ (P : Profile) (p : Plan) (image : List ℕ) where
     engine-at i b u h =
         inr (
           b .complete,
-          in-right Met v (orders P p image ++ meetings P p image) (engines P p image) (ranges-met P p image (b .valid) (b .disjoint))
+          in-right Met v (invalid P p image ++ overlapping P p image) (engines P p image) (ranges-met P p image (b .valid) (b .disjoint))
               (at-engine Met v (λ j. ofEngine (planAt P p j) j) P p i u (λ j l. engine-met P p image j .1 (b .engines j l)) h),
         )
 
@@ -116,11 +116,11 @@ module _ (P : Profile) (p : Plan) (image : List ℕ) where
   reported-at WrongLength n r = inl (refl, r)
   reported-at (InvalidRange i) n r =
       let v = InvalidRange i in
-      inr (r .0, in-left Met v (orders P p image ++ meetings P p image) (engines P p image) (in-left Met v (orders P p image) (meetings P p image) (invalid-at i (r .1) (r .2))))
+      inr (r .0, in-left Met v (invalid P p image ++ overlapping P p image) (engines P p image) (in-left Met v (invalid P p image) (overlapping P p image) (invalid-at i (r .1) (r .2))))
   reported-at (CodeOverlapsTable i) n r =
       let v = CodeOverlapsTable i in
       let o = valid-met P p image .1 (r .1) in
-      inr (r .0, in-left Met v (orders P p image ++ meetings P p image) (engines P p image) (in-right Met v (orders P p image) (meetings P p image) o (overlap-at i (r .2) (r .3))))
+      inr (r .0, in-left Met v (invalid P p image ++ overlapping P p image) (engines P p image) (in-right Met v (invalid P p image) (overlapping P p image) o (overlap-at i (r .2) (r .3))))
   reported-at (UndefinedWord i a) n r = word-at (UndefinedWord i a) i (a .0) (r .0) (r .1) (inl (refl, r .2))
   reported-at (SuccessorOutside i a) n r = word-at (SuccessorOutside i a) i (a .0) (r .0) (r .1) (inr (r .2, inl (refl, r .3)))
   reported-at (TableMisused i a) n r = word-at (TableMisused i a) i (a .0) (r .0) (r .1) (inr (r .2, inr (r .3, inl (refl, r .4))))
@@ -138,23 +138,23 @@ module _ (P : Profile) (p : Plan) (image : List ℕ) where
 -- 11 and 12 by themselves
 module _ (P : Profile) (p : Plan) where
   abbrev both : List Verdict
-  both = orders P p [] ++ meetings P p []
+  both = invalid P p [] ++ overlapping P p []
 
-  ranges-accepted : (checkRangesOf P p ≡ Accept) ↔ RangesReported P p Accept
+  pub ranges-accepted : (checkRangesOf P p ≡ Accept) ↔ RangesReported P p Accept
   unfolding checkRangesOf
   ranges-accepted =
       Iff·trans (first-all (holds P p []) refl both, first-none (holds P p []) both)
       (Iff·trans (all-met P p [] both) (
-        λ h. let t = met-append (Condition P p []) (orders P p []) (meetings P p []) .0 h in (valid-met P p [] .0 (t .0), disjoint-met P p [] .0 (t .1)),
+        λ h. let t = met-append (Condition P p []) (invalid P p []) (overlapping P p []) .0 h in (valid-met P p [] .0 (t .0), disjoint-met P p [] .0 (t .1)),
         λ h. ranges-met P p [] (h .0) (h .1),
       ))
 
   ranges-at : (v : Verdict) → (v ≡ Accept → ⊥) → RangesReported P p v → First (Condition P p []) v both
   ranges-at Accept n r = absurd (n refl)
   ranges-at WrongLength n r = absurd r
-  ranges-at (InvalidRange i) n r = in-left (Condition P p []) (InvalidRange i) (orders P p []) (meetings P p []) (invalid-at P p [] i (r .0) (r .1))
+  ranges-at (InvalidRange i) n r = in-left (Condition P p []) (InvalidRange i) (invalid P p []) (overlapping P p []) (invalid-at P p [] i (r .0) (r .1))
   ranges-at (CodeOverlapsTable i) n r =
-      in-right (Condition P p []) (CodeOverlapsTable i) (orders P p []) (meetings P p []) (valid-met P p [] .1 (r .0)) (overlap-at P p [] i (r .1) (r .2))
+      in-right (Condition P p []) (CodeOverlapsTable i) (invalid P p []) (overlapping P p []) (valid-met P p [] .1 (r .0)) (overlap-at P p [] i (r .1) (r .2))
   ranges-at (UndefinedWord i a) n r = absurd r
   ranges-at (SuccessorOutside i a) n r = absurd r
   ranges-at (TableMisused i a) n r = absurd r

@@ -57,29 +57,29 @@ module _ (P : Profile) (p : Plan) (image : List ℕ) where
   )
 
   -- the order after WrongLength: 11, 12, then the engines
-  abbrev pub orders : List Verdict
-  orders = map InvalidRange (engineNumbers P)
+  abbrev pub invalid : List Verdict
+  invalid = map InvalidRange (engineNumbers P)
 
-  abbrev pub meetings : List Verdict
-  meetings = map CodeOverlapsTable (engineNumbers P)
+  abbrev pub overlapping : List Verdict
+  overlapping = map CodeOverlapsTable (engineNumbers P)
 
   abbrev pub engines : List Verdict
   engines = joined (λ i. ofEngine (planAt P p i) i) (engineNumbers P)
 
-  pub valid-met : AllOf (Condition P p image) orders ↔ AllValid P p
+  pub valid-met : AllOf (Condition P p image) invalid ↔ AllValid P p
   valid-met = (
     λ h. engine-all (ValidRanges P) tt P p (met-map (Condition P p image) InvalidRange (engineNumbers P) .0 h),
     λ h. met-map (Condition P p image) InvalidRange (engineNumbers P) .1 (all-given h (engineNumbers P)),
   )
 
-  pub disjoint-met : AllOf (Condition P p image) meetings ↔ AllDisjoint P p
+  pub disjoint-met : AllOf (Condition P p image) overlapping ↔ AllDisjoint P p
   disjoint-met = (
     λ h. engine-all (CodeDisjoint P p) (λ i a c. absurd c) P p (met-map (Condition P p image) CodeOverlapsTable (engineNumbers P) .0 h),
     λ h. met-map (Condition P p image) CodeOverlapsTable (engineNumbers P) .1 (all-given h (engineNumbers P)),
   )
 
-  pub ranges-met : AllValid P p → AllDisjoint P p → AllOf (Condition P p image) (orders ++ meetings)
-  ranges-met o m = met-append (Condition P p image) orders meetings .1 (valid-met .1 o, disjoint-met .1 m)
+  pub ranges-met : AllValid P p → AllDisjoint P p → AllOf (Condition P p image) (invalid ++ overlapping)
+  ranges-met o m = met-append (Condition P p image) invalid overlapping .1 (valid-met .1 o, disjoint-met .1 m)
 
   engines-met : AllOf (Condition P p image) engines ↔ ((i : ℕ) → EngineMet P image (planAt P p i))
   engines-met = (
@@ -92,8 +92,8 @@ module _ (P : Profile) (p : Plan) (image : List ℕ) where
 
   accepted : AllOf (Condition P p image) (verdictsOf P p) → Accepted P p image
   accepted h =
-      let s = met-append (Condition P p image) (orders ++ meetings) engines .0 (h .1) in
-      let t = met-append (Condition P p image) orders meetings .0 (s .0) in
+      let s = met-append (Condition P p image) (invalid ++ overlapping) engines .0 (h .1) in
+      let t = met-append (Condition P p image) invalid overlapping .0 (s .0) in
       let good = engines-met .0 (s .1) in
       record {
         complete = h .0;
@@ -109,7 +109,7 @@ module _ (P : Profile) (p : Plan) (image : List ℕ) where
   met : Accepted P p image → AllOf (Condition P p image) (verdictsOf P p)
   met A =
       let e = engines-met .1 (λ i. (λ a c. (A .defined i a c, A .successors i a c, A .tableUse i a c), A .opensTable i, A .rowsClear i)) in
-      (A .complete, met-append (Condition P p image) (orders ++ meetings) engines .1 (ranges-met (A .validRanges) (A .disjoint), e))
+      (A .complete, met-append (Condition P p image) (invalid ++ overlapping) engines .1 (ranges-met (A .validRanges) (A .disjoint), e))
 
   -- each verdict of the order has an address of its engine
   engine-located : (i : ℕ) → AllOf (Located P p) (ofEngine (planAt P p i) i)
@@ -124,7 +124,7 @@ module _ (P : Profile) (p : Plan) (image : List ℕ) where
       let o = met-map (Located P p) InvalidRange (engineNumbers P) .1 (all-given (λ i. tt) (engineNumbers P)) in
       let m = met-map (Located P p) CodeOverlapsTable (engineNumbers P) .1 (all-given (λ i. tt) (engineNumbers P)) in
       let e = met-joined (Located P p) (λ i. ofEngine (planAt P p i) i) (engineNumbers P) .1 (all-given engine-located (engineNumbers P)) in
-      (tt, met-append (Located P p) (orders ++ meetings) engines .1 (met-append (Located P p) orders meetings .1 (o, m), e))
+      (tt, met-append (Located P p) (invalid ++ overlapping) engines .1 (met-append (Located P p) invalid overlapping .1 (o, m), e))
 
 -- 1
 pub accepts-exactly : AcceptsExactly
