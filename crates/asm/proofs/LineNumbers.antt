@@ -1,6 +1,5 @@
 -- The number with which the reader refuses a line, 0 for none; and that it is the one that the line is bad by.
-use Prim.Native.Nat.{ℕ, _+_, _-_, _<_}
-use mathlib.Core.Bool.{cond}
+use Prim.Native.Nat.{ℕ, _-_}
 use mathlib.Core.List.{List, []}
 use mathlib.Core.Logic.{_↔_, _⊎_, inl, inr, Iff·trans}
 use mathlib.Core.Path.{_≡_, refl, sym, ap, _∙_}
@@ -10,7 +9,7 @@ use lib.Dec.{ltb}
 use lib.ListN.{getD}
 use Rattle.laws.proofs.Tests.{by-cond}
 use Rattle.text.specs.Bytes.{space, split}
-use Rattle.word.specs.Profile.{Profile, LP5523, enginesOf}
+use Rattle.word.specs.Profile.{Profile, LP5523}
 use Rattle.plan.specs.declared.Plan.{Plan}
 use Rattle.plan.specs.Ranges.{enginePlans}
 use Rattle.plan.specs.Tests.{inCode}

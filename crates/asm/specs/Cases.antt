@@ -4,12 +4,11 @@ use mathlib.Core.List.{List, [], _∷_, map}
 use mathlib.Core.Path.{_≡_}
 use Rattle.word.specs.Profile.{LP5523}
 use Rattle.word.specs.Steps.{addressAt}
-use Rattle.plan.specs.declared.EnginePlan.the-variants.{Unused, CodeOnly, CodeAndTable}
+use Rattle.plan.specs.declared.EnginePlan.the-variants.{CodeOnly, CodeAndTable}
 use Rattle.plan.specs.declared.Plan.{Plan}
 use Rattle.plan.specs.declared.Report.{Report}
 use Rattle.plan.specs.declared.Verdict.the-variants as verdict
 use Rattle.plan.specs.Verdict.{report}
-use Rattle.grammar.specs.declared.LineKind.{LineKind}
 use Rattle.grammar.specs.declared.LineKind.the-variants.{Op, Row, Spare}
 use Rattle.asm.specs.declared.Assembled.{Assembled}
 use Rattle.asm.specs.declared.Assembled.the-variants.{Program, WrongLength, Malformed, UnknownOp, OutsideField, WrongLineCount, InvalidRange, CodeOverlapsTable}
@@ -17,7 +16,6 @@ use Rattle.asm.specs.declared.LineReport.{LineReport}
 use Rattle.asm.specs.declared.Disassembled.{Disassembled}
 use Rattle.asm.specs.declared.Disassembled.the-variants.{Length, Refused, TooShort}
 use Rattle.asm.specs.Places.{lineKindAt, ownerAt, lineOf}
-use Rattle.asm.specs.Writing.{Written, wrote, unwritten}
 use Rattle.asm.specs.Answers.{lineReportOf, writtenOf, writingOf}
 
 -- Engine 1 has code and a table, with which the code of engine 2 meets; engine 2's table and engine 1's have rows in common.

@@ -46,10 +46,7 @@ use Rattle.machine.proofs.Common.{words-most, or-false-left, all-alike}
 use Rattle.machine.proofs.Closed.{hasTable, topOf, bottomOf, start-top, end-bottom, row-inside, SoundWord, Closed}
 use Rattle.machine.proofs.Kept.{core, ended, lasting, Plain, lasting-plain, Under, endless, Points, Kept, TableEnds, firstThen, secondThen, ends-kept}
 
--- A branch's successors: its target, and the next word where it may go on.
-loop-target : (R : ℕ → Type 0) (first a c : ℕ) (s : Step) → AllIn R (successorsOf first a (Loop c s)) → R (first + s .0)
-loop-target R first a c s h = h .0
-
+-- A branch's successor other than its target: the next word, where it may go on.
 loop-next : (R : ℕ → Type 0) (first a c : ℕ) (s : Step) → (c ≡ 0 → ⊥) → AllIn R (successorsOf first a (Loop c s)) → R (a + 1)
 loop-next R first a zero s n h = absurd (n refl)
 loop-next R first a (suc c) s n h = h .1 .0

@@ -1,6 +1,6 @@
 -- Each report is given exactly when `Reported` says so, and the same of a plan alone.
 use Prim.Native.Nat.{ℕ}
-use mathlib.Core.Bool.{true, false, true≢false}
+use mathlib.Core.Bool.{true≢false}
 use mathlib.Core.List.{List, [], _∷_, _++_}
 use mathlib.Core.Logic.{_↔_, Iff·rfl, Iff·trans, inl, inr}
 use mathlib.Core.Path.{_≡_, refl, sym, ap, subst, _∙_}
@@ -16,8 +16,8 @@ use Rattle.plan.specs.Verdict.{reportOf, isAccept}
 use Rattle.plan.specs.Ranges.{planAt, firstOf, InCode, InTable, tableAddresses}
 use Rattle.plan.specs.Conditions.{ValidRanges, CodeDisjoint, OpensTable, Condition}
 use Rattle.plan.specs.Tests.{holds}
-use Rattle.plan.specs.Check.{engineNumbers, joined, ofWord, ofRow, ofEngine, verdictsOf, checkOf, checkRangesOf}
-use Rattle.plan.specs.Reports.{AllValid, AllDisjoint, ValidBefore, DisjointBefore, WordsMet, EngineMet, BeforeEngine, BeforeWord, Reported, RangesReported}
+use Rattle.plan.specs.Check.{joined, ofWord, ofRow, ofEngine, verdictsOf, checkOf, checkRangesOf}
+use Rattle.plan.specs.Reports.{AllValid, ValidBefore, DisjointBefore, WordsMet, EngineMet, BeforeEngine, BeforeWord, Reported, RangesReported}
 use Rattle.plan.specs.Theorems.{ReportsExactly, RangesExactly}
 use Rattle.plan.proofs.Laws.{is-accept}
 use Rattle.plan.proofs.Reports.{reports-distinct}

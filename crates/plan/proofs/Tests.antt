@@ -18,10 +18,10 @@ use Rattle.word.specs.declared.Word.the-variants.{Rst, Ramp, Wait, Set, RampVar
 use Rattle.plan.specs.declared.EnginePlan.{EnginePlan}
 use Rattle.plan.specs.declared.EnginePlan.the-variants.{Unused, CodeOnly, CodeAndTable}
 use Rattle.plan.specs.declared.Verdict.the-variants.{Accept, WrongLength, InvalidRange, CodeOverlapsTable, UndefinedWord, SuccessorOutside, TableMisused, TableNotOpened, ReservedRowBit}
-use Rattle.plan.specs.Ranges.{enginePlans, planAt, InRange, InCode, InTable, firstOf}
+use Rattle.plan.specs.Ranges.{enginePlans, planAt, InRange, InCode, firstOf}
 use Rattle.word.specs.Decode.{wordAt}
-use Rattle.plan.specs.Conditions.{ValidRange, ValidRanges, Disjoint, Defined, successorsOf, AllIn, SuccessorsInside, UseInside, NoUse, UsesOwnTable, isStart, isEnd, OpensTable, reservedBits}
-use Rattle.plan.specs.Tests.{validRange, validRanges, overlap, codeOverlaps, overlaps, overlapsAny, inRange, inCode, allIn, successorsInside, useInside, noUse, usesOwnTable, opensTable}
+use Rattle.plan.specs.Conditions.{ValidRange, ValidRanges, Disjoint, Defined, successorsOf, AllIn, UseInside, NoUse, UsesOwnTable, isStart, isEnd, OpensTable, reservedBits}
+use Rattle.plan.specs.Tests.{validRange, validRanges, overlap, codeOverlaps, overlaps, overlapsAny, inCode, allIn, successorsInside, useInside, noUse, usesOwnTable, opensTable}
 use Rattle.plan.specs.Theorems.{RangeTest, CodeTest, SuccessorsTest, TestsExactly}
 
 abbrev pub Exactly : Bool → Type 0 → Type 0

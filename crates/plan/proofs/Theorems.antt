@@ -6,7 +6,6 @@ use mathlib.Core.Logic.{_↔_, Iff·trans}
 use mathlib.Core.Path.{_≡_, refl, sym, ap, subst}
 use Rattle.word.specs.Profile.{Profile}
 use Rattle.word.specs.Steps.{addressAt}
-use Rattle.plan.specs.declared.EnginePlan.{EnginePlan}
 use Rattle.plan.specs.declared.EnginePlan.the-variants.{Unused}
 use Rattle.plan.specs.declared.Plan.{Plan}
 use Rattle.plan.specs.declared.Verdict.{Verdict}

@@ -1,7 +1,7 @@
 -- The places of a text's parts, one after another, and of one that is looked for.
-use Prim.Native.Nat.{ℕ, zero, suc, _+_, _≤_, _<_}
-use mathlib.Core.Bool.{Bool, true, false, cond}
-use mathlib.Core.List.{List, [], _∷_}
+use Prim.Native.Nat.{ℕ, suc, _+_, _≤_, _<_}
+use mathlib.Core.Bool.{true, false, cond}
+use mathlib.Core.List.{List}
 use mathlib.Core.Path.{_≡_, refl, sym, ap, _∙_}
 use native.Mathlib.Omega.{arith}
 use borrow.Author.Tests.{le-leb, lt-leb, ltb-true, ltb-false}
@@ -9,7 +9,7 @@ use lib.Dec.{leb, ltb}
 use lib.ListN.{length, drop}
 use Rattle.laws.proofs.Tests.{by-test, by-cond}
 use Rattle.text.specs.Bytes.{same, split, partAt, afterPart, placeOf}
-use Rattle.text.proofs.Splits.{part-within, part-end, split-at-some, split-at-none}
+use Rattle.text.proofs.Splits.{part-end, split-at-some, split-at-none}
 
 module _ (d at : ℕ) (s : List ℕ) where
   -- it is one past the part's end

@@ -1,12 +1,11 @@
 -- Cases of parts, pairs and numbers, each by computation.
 use Prim.Native.Nat.{ℕ, _+_}
-use mathlib.Core.Bool.{Bool, true, false}
-use mathlib.Core.List.{List, [], _∷_, map}
+use mathlib.Core.Bool.{true, false}
+use mathlib.Core.List.{[], _∷_, map}
 use mathlib.Core.Path.{_≡_}
 use Rattle.text.specs.Bytes.{ascii, lineFeed, space, equalsSign, same, lacks, indexOf, split, join, partAt, valueOf, isKeyword, isPair}
 use Rattle.text.specs.Number.{isNumber, numberOf, readNumber, decimalOf}
 use Rattle.text.specs.Put.{lastPlace}
-use Rattle.text.specs.declared.Decimal.{Decimal}
 use Rattle.text.specs.declared.Decimal.the-variants.{Number, Malformed, Outside}
 
 -- The bytes with a meaning of their own, by ASCII's table. No place is above 2^64 - 1.

@@ -1,6 +1,6 @@
 -- Document 01's table at the edges of its fields, as data: words with their codes, words that are refused, codes that are undefined.
 use Prim.Native.Nat.{ℕ, _*_}
-use mathlib.Core.Bool.{Bool, true, false}
+use mathlib.Core.Bool.{true, false}
 use mathlib.Core.List.{List, [], _∷_, map}
 use mathlib.Core.Path.{_≡_}
 use Rattle.word.specs.declared.Coded.the-variants.{Code, OutsideField, UndefinedWord}
@@ -8,9 +8,7 @@ use Rattle.word.specs.declared.Direction.the-variants.{Up, Down}
 use Rattle.word.specs.declared.JumpOp.the-variants.{Jne, Jl, Jge, Je}
 use Rattle.word.specs.declared.ArithOp.the-variants.{Ld, Add, Sub}
 use Rattle.word.specs.declared.ArithVarOp.the-variants.{AddVar, SubVar}
-use Rattle.word.specs.declared.MuxAtOp.{MuxAtOp}
 use Rattle.word.specs.declared.MuxAtOp.the-variants.{MuxMapStart, MuxLdEnd, MuxLdStart, MuxLdAddr, MuxMapAddr}
-use Rattle.word.specs.declared.MuxMoveOp.{MuxMoveOp}
 use Rattle.word.specs.declared.MuxMoveOp.the-variants.{MuxMapNext, MuxLdNext, MuxMapPrev, MuxLdPrev}
 use Rattle.word.specs.declared.Flow.{Flow}
 use Rattle.word.specs.declared.Flow.the-variants.{Next, Restart, Stop, Loop, LoopVar, Skip, Fault}

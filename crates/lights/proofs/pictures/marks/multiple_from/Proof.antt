@@ -1,6 +1,5 @@
 -- `lights::pictures::marks::multiple_from` meets its contract.
 use native.Mathlib.Nat.{mod-lt, le-of-lt}
-use native.Mathlib.Omega.{arith}
 use borrow.Author.Needs.{needs}
 use Rattle.lights.proofs.pictures.marks.multiple_from.Statement.{statement}
 use Rattle.lights.proofs.pictures.marks.multiple_from.Tie as tie
