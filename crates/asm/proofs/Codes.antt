@@ -2,43 +2,31 @@
 use Prim.Native.Nat.{ℕ, zero, suc}
 use mathlib.Core.Bool.{Bool, true, false, cond, _||_, false≢true, or-true}
 use mathlib.Core.List.{List, [], _∷_}
-use mathlib.Core.Logic.{_↔_}
 use mathlib.Core.Path.{_≡_, refl, sym, ap, _∙_}
-use borrow.Author.Tests.{leb-true, le-leb}
-use lib.Dec.{leb}
 use lib.ListN.{getD}
 use Rattle.laws.proofs.Tests.{by-test}
 use Rattle.word.specs.Profile.{Profile}
-use Rattle.word.specs.declared.Address.{Address}
 use Rattle.plan.specs.declared.EnginePlan.{EnginePlan}
-use Rattle.plan.specs.declared.EnginePlan.the-variants.{Unused, CodeOnly, CodeAndTable}
+use Rattle.plan.specs.declared.EnginePlan.the-variants.{Unused}
 use Rattle.plan.specs.declared.Plan.{Plan}
-use Rattle.plan.specs.Ranges.{enginePlans, planAt, InRange, InCode}
-use Rattle.plan.specs.Tests.{inRange, inCode}
-use Rattle.plan.proofs.Tests.{both}
+use Rattle.plan.specs.Ranges.{enginePlans, planAt, InCode}
+use Rattle.plan.specs.Tests.{inCode}
+use Rattle.plan.proofs.Tests.{code-test}
 use Rattle.grammar.specs.declared.LineKind.{LineKind}
 use Rattle.grammar.specs.declared.LineKind.the-variants.{Op, Row, Spare}
 use Rattle.asm.specs.Places.{inTable, anyHas, lineKindAt}
-
-in-range : (f l : Address) (a : ℕ) → (inRange f l a ≡ true) ↔ InRange f l a
-in-range f l a = both (leb (f .0) a) (leb a (l .0)) (leb-true (f .0) a, le-leb (f .0) a) (leb-true a (l .0), le-leb a (l .0))
-
-in-code : (q : EnginePlan) (a : ℕ) → (inCode q a ≡ true) ↔ InCode q a
-in-code Unused a = (λ e. false≢true e, λ h. absurd h)
-in-code (CodeOnly f l) a = in-range f l a
-in-code (CodeAndTable f l t b) a = in-range f l a
 
 -- some engine of a list
 any-code : (qs : List EnginePlan) (a : ℕ) → anyHas inCode qs a ≡ true → (i : ℕ) × InCode (getD qs i Unused) a
 any-code [] a e = absurd (false≢true e)
 any-code (q ∷ qs) a e =
     by-test (inCode q a)
-    (λ h. (0, in-code q a .0 h))
+    (λ h. (0, code-test q a .0 h))
     (λ h. let r = any-code qs a (ap (λ (b : Bool). b || anyHas inCode qs a) (sym h) ∙ e) in (suc (r .0), r .1))
 
 code-any : (qs : List EnginePlan) (a i : ℕ) → InCode (getD qs i Unused) a → anyHas inCode qs a ≡ true
 code-any [] a i c = absurd c
-code-any (q ∷ qs) a zero c = ap (λ (b : Bool). b || anyHas inCode qs a) (in-code q a .1 c)
+code-any (q ∷ qs) a zero c = ap (λ (b : Bool). b || anyHas inCode qs a) (code-test q a .1 c)
 code-any (q ∷ qs) a (suc i) c = ap (λ (b : Bool). inCode q a || b) (code-any qs a i c) ∙ or-true (inCode q a)
 
 module _ (P : Profile) (p : Plan) (a : ℕ) where

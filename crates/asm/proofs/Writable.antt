@@ -2,7 +2,7 @@
 use Prim.Native.Nat.{ℕ}
 use mathlib.Core.List.{List, [], _∷_, map, _++_}
 use mathlib.Core.Logic.{_↔_, Iff·trans}
-use mathlib.Core.Path.{_≡_, refl, sym, ap, subst}
+use mathlib.Core.Path.{_≡_, refl, sym, subst}
 use Rattle.word.specs.Profile.{Profile}
 use Rattle.word.specs.Steps.{addressAt}
 use Rattle.plan.specs.declared.EnginePlan.{EnginePlan}
@@ -17,14 +17,10 @@ use Rattle.plan.specs.Check.{engineNumbers, joined, firstFailing}
 use Rattle.plan.specs.Theorems.{AllOf}
 use Rattle.plan.proofs.First.{first-none, first-all}
 use Rattle.plan.proofs.Theorems.{all-met, valid-met, disjoint-met}
+use Rattle.plan.proofs.Order.{one-each}
 use Rattle.plan.proofs.Lists.{all-map, all-given, engine-all, met-append, met-joined, over-code}
 use Rattle.asm.specs.Theorems.{Sound}
 use Rattle.asm.specs.Writing.{undefinedAt, objectionsTo, writableOf}
-
--- a list of single verdicts, joined
-pub map-joined : (v : ℕ → Verdict) (xs : List ℕ) → map v xs ≡ joined (λ x. v x ∷ []) xs
-map-joined v [] = refl
-map-joined v (x ∷ xs) = ap (λ (vs : List Verdict). v x ∷ vs) (map-joined v xs)
 
 module _ (P : Profile) (p : Plan) (image : List ℕ) where
   abbrev Met : List Verdict → Type 0
@@ -41,7 +37,7 @@ module _ (P : Profile) (p : Plan) (image : List ℕ) where
   engine-defined : (i : ℕ) → Met (undefinedAt p P i) ↔ AllDefined (planAt P p i)
   engine-defined i =
       let v : ℕ → Verdict = λ a. UndefinedWord i (addressAt a) in
-      let e = map-joined v (codeAddresses (planAt P p i)) in
+      let e = one-each v (codeAddresses (planAt P p i)) in
       let o = over-code (Condition P p image) (λ a. v a ∷ []) (planAt P p i) in (
         λ h a c. o .0 (subst Met e h) a c .0,
         λ h. subst Met (sym e) (o .1 (λ a c. (h a c, tt))),

@@ -7,7 +7,7 @@ use native.Mathlib.Omega.{arith}
 use borrow.Author.Tests.{not-true}
 use lib.Dec.{eqb}
 use lib.ListN.{length, getD}
-use Rattle.laws.proofs.Tests.{by-test}
+use Rattle.laws.proofs.Tests.{and-false, by-test}
 use Rattle.word.specs.Profile.{LP5523}
 use Rattle.machine.specs.declared.Chip.{Chip}
 use Rattle.machine.specs.declared.Engine.{Engine}
@@ -18,13 +18,14 @@ use Rattle.machine.specs.declared.Outcome.the-variants.{Success}
 use Rattle.machine.specs.Parts.{each, engineAt, withEngines}
 use Rattle.machine.specs.Triggers.{pulsed}
 use Rattle.machine.specs.Turn.{acts}
-use Rattle.machine.specs.Tick.{some, loads, stopped, withPulse, turns, tickIf, tick}
+use Rattle.machine.specs.Tick.{some, loads, stopped, withPulse, turns, tick}
 use Rattle.machine.specs.Run.{quiet, tally, beatsMore, mostBeats, runOf}
 use Rattle.machine.proofs.Common.{or-false-left, or-false-right, each-length}
 use Rattle.machine.proofs.Run.{run-goes}
 use Rattle.machine.proofs.Theorems.{stopped-beat}
 use Rattle.machine.proofs.Safety.{turn-rests}
 use Rattle.engine_core.proofs.Three.{three}
+use Rattle.machine.proofs.Recorded.{tick-goes}
 use Rattle.beats.specs.declared.CoresTicked.{CoresTicked}
 use Rattle.beats.specs.declared.CoresRan.{CoresRan}
 use Rattle.beats.specs.declared.Span.{Span}
@@ -35,10 +36,6 @@ use Rattle.beats.proofs.Levels.{each-none}
 use Rattle.beats.proofs.TurnOf.{three-turns}
 
 -- a beat of a chip that is not stopped
-pub tick-goes : (pulse : Bool) (m : Chip) → stopped m ≡ false → tick LP5523 pulse m ≡ turns LP5523 3 0 (withPulse pulse m)
-unfolding tick
-tick-goes pulse m h = ap (tickIf LP5523 pulse m) h
-
 not-stopped : (m : Chip) → quiet m ≡ false → stopped m ≡ false
 unfolding quiet
 not-stopped m h = or-false-left (stopped m) _ h
@@ -49,7 +46,7 @@ unfolding pulsed
 no-pulse m = ap (λ (es : List Engine). withEngines es m) (each-none (pulsed false) (λ j e. refl) 0 (m .engines))
 
 busy-tick : (m : Chip) → quiet m ≡ false → tick LP5523 false m ≡ turns LP5523 3 0 m
-busy-tick m q = tick-goes false m (not-stopped m q) ∙ ap (turns LP5523 3 0) (no-pulse m)
+busy-tick m q = tick-goes LP5523 false m (not-stopped m q) ∙ ap (turns LP5523 3 0) (no-pulse m)
 
 -- no beat follows once all is quiet
 pub span-quiet : (n : ℕ) (s : Span) → quiet (s .ran .chip) ≡ true → spanOf n s ≡ s
@@ -158,19 +155,15 @@ beat-of-span pulse m l =
     (λ s.
     ap (λ (x : Chip). tickedFrom (spanOf 1 (noBeat x))) (ap (λ (b : Bool). withPulse (not b && pulse) m) s)
     ∙ one-beat (withPulse pulse m) (each-length (pulsed pulse) 0 (m .engines) ∙ l) (pulse-stops pulse m ∙ s)
-    ∙ sym (tick-goes pulse m s))
+    ∙ sym (tick-goes LP5523 pulse m s))
 
 -- a run is a span with no pulse
 pub run-of-span : (n : ℕ) (m : Chip) → n ≤ mostBeats → spanOf n (noBeat (withPulseTaken false m)) .ran ≡ runOf LP5523 n m
 run-of-span n m h =
-    ap (λ (b : Bool). spanOf n (noBeat (withPulse b m)) .ran) (none (not (stopped m)))
+    ap (λ (b : Bool). spanOf n (noBeat (withPulse b m)) .ran) (and-false (not (stopped m)))
     ∙ ap (λ (x : Chip). spanOf n (noBeat x) .ran) (no-pulse m)
     ∙ span-ran n (noBeat m)
     ∙ sym (run-goes LP5523 n m h)
-  where
-    none : (b : Bool) → (b && false) ≡ false
-    none true = refl
-    none false = refl
 
 -- the beat, as its three engines' counts tell which ended a word
 pub ended-three : (s : Span) (d : ℕ) → length (s .ran .words) ≡ 3 → _≡_ {A = TickResult} (record { chip = s .ran .chip; pin = s .pin; ended = eqb (getD (s .ran .words) 0 d) 1 ∷ eqb (getD (s .ran .words) 1 d) 1 ∷ eqb (getD (s .ran .words) 2 d) 1 ∷ [] }) (tickedFrom s)

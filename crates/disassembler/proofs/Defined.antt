@@ -16,16 +16,14 @@ use Rattle.plan.specs.declared.Verdict.{Verdict}
 use Rattle.plan.specs.declared.Verdict.the-variants.{Accept, WrongLength, InvalidRange, CodeOverlapsTable, UndefinedWord}
 use Rattle.plan.specs.Ranges.{planAt, codeAddresses}
 use Rattle.word.specs.Decode.{wordAt}
-use Rattle.plan.specs.Tests.{holds, validRanges}
+use Rattle.plan.specs.Tests.{holds}
 use Rattle.plan.specs.Check.{engineNumbers, firstFailing, checkRangesOf}
 use Rattle.plan.specs.internal.Passes.{orElse}
 use Rattle.plan.proofs.Laws.{scan-refused, scan-passed, scan-end}
 use Rattle.plan.proofs.Passes.{append, three, scanned}
-use Rattle.plan.proofs.Tests.{tests-exactly}
 use Rattle.asm.specs.Writing.{undefinedAt, writableOf}
 use Rattle.disassembler.specs.internal.Walks.{definedFrom, engineDefined, planDefined}
-use Rattle.asm.proofs.Writable.{map-joined}
-use Rattle.plan.proofs.Exactly.{ranges-accepted}
+use Rattle.plan.proofs.Order.{one-each}
 
 -- the words from a to l: one step of the loop, and its end
 module _ (P : Profile) (i : ℕ) (image : List ℕ) (a l : ℕ) where
@@ -45,16 +43,6 @@ module _ (P : Profile) (i : ℕ) (image : List ℕ) (a l : ℕ) where
   unfolding definedFrom
   defined-to h = scan-end _ a l h
 
--- where 11 and 12 have passed, each engine is in order
-pub ranges-valid : (p : Plan) → checkRangesOf LP5523 p ≡ Accept
-    → (validRanges LP5523 (p .engine1) ≡ true) × (validRanges LP5523 (p .engine2) ≡ true) × (validRanges LP5523 (p .engine3) ≡ true)
-ranges-valid p h =
-    let o = ranges-accepted LP5523 p .0 h .0 in (
-      tests-exactly LP5523 p [] (InvalidRange 1) .1 (o 1),
-      tests-exactly LP5523 p [] (InvalidRange 2) .1 (o 2),
-      tests-exactly LP5523 p [] (InvalidRange 3) .1 (o 3),
-    )
-
 module _ (P : Profile) (p : Plan) (image : List ℕ) (i : ℕ) where
   abbrev undefined : ℕ → Verdict
   undefined a = UndefinedWord i (addressAt a)
@@ -62,7 +50,7 @@ module _ (P : Profile) (p : Plan) (image : List ℕ) (i : ℕ) where
   range : (a n : ℕ) → firstFailing (holds P p image) (map undefined (upward a n)) ≡ definedFrom P i image a n
   unfolding firstFailing definedFrom
   range a n =
-      ap (firstFailing (holds P p image)) (map-joined undefined (upward a n))
+      ap (firstFailing (holds P p image)) (one-each undefined (upward a n))
       ∙ scanned P p image (λ x. undefined x ∷ []) (λ x. cond (not (isUndefined (wordAt P image x))) Accept (undefined x)) (λ x. refl) a n
 
   engine : (q : EnginePlan) → firstFailing (holds P p image) (map undefined (codeAddresses q)) ≡ engineDefined P i q image

@@ -13,12 +13,12 @@ use Rattle.machine.specs.declared.Chip.{Chip}
 use Rattle.machine.specs.declared.Outcome.{Outcome}
 use Rattle.machine.specs.declared.Outcome.the-variants.{Success, EmptyBurst, UnlistedAddress}
 use Rattle.machine.specs.declared.Register.{Register}
-use Rattle.machine.specs.declared.Register.the-variants.{Control, Modes, OutputLevel, VariableD, Start, Page, Memory, Unlisted}
 use Rattle.machine.specs.declared.WriteResult.{WriteResult}
 use Rattle.machine.specs.Registers.{registerAt}
 use Rattle.machine.specs.Judged.{judged}
 use Rattle.machine.specs.Stored.{stored}
 use Rattle.machine.specs.Burst.{Placed, visited, isUnlisted, someUnlisted, succeeds, bytesWritten, undone, burstOf}
+use Rattle.machine.proofs.Answers.{is-unlisted}
 use Rattle.host.proofs.Addresses.{listed-low}
 
 abbrev pub placed : ℕ → ℕ → Placed
@@ -89,16 +89,6 @@ module _ (P : Profile) (a i : ℕ) (xs : List ℕ) (m : Chip) where
   pub stored-end : length xs ≤ i → bytesWritten P (visited a (drop i xs)) m ≡ written Success m
   unfolding bytesWritten
   stored-end l = rw (left-none a i xs l)
-
-is-unlisted : (r : Register) → isUnlisted r ≡ true → r ≡ Unlisted
-is-unlisted Control h = absurd (false≢true h)
-is-unlisted Modes h = absurd (false≢true h)
-is-unlisted (OutputLevel k) h = absurd (false≢true h)
-is-unlisted VariableD h = absurd (false≢true h)
-is-unlisted (Start i) h = absurd (false≢true h)
-is-unlisted Page h = absurd (false≢true h)
-is-unlisted (Memory k) h = absurd (false≢true h)
-is-unlisted Unlisted h = refl
 
 -- a byte that is not refused has a listed address, so the next address fits
 pub stored-low : (a v : ℕ) (m : Chip) {w : WriteResult} → w ≡ bytesWritten LP5523 (placed a v ∷ []) m → succeeds (w .outcome) ≡ true → a ≤ 0x6F

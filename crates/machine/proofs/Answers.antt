@@ -364,7 +364,7 @@ bytes-answer P a (v ∷ vs) m l =
     }))
 
 -- 2
-is-unlisted : (r : Register) → isUnlisted r ≡ true → r ≡ Unlisted
+pub is-unlisted : (r : Register) → isUnlisted r ≡ true → r ≡ Unlisted
 is-unlisted Control h = absurd (false≢true h)
 is-unlisted Modes h = absurd (false≢true h)
 is-unlisted (OutputLevel k) h = absurd (false≢true h)

@@ -23,7 +23,7 @@ use Rattle.machine.proofs.Run.{run-is-beats}
 use Rattle.machine.proofs.Safety.{tick-chip}
 
 -- a beat of a chip that isn't stopped
-tick-goes : (P : Profile) (pulse : Bool) (m : Chip) → stopped m ≡ false → tick P pulse m ≡ turns P (enginesOf P) 0 (withPulse pulse m)
+pub tick-goes : (P : Profile) (pulse : Bool) (m : Chip) → stopped m ≡ false → tick P pulse m ≡ turns P (enginesOf P) 0 (withPulse pulse m)
 unfolding tick
 tick-goes P pulse m h = ap (tickIf P pulse m) h
 

@@ -1,11 +1,11 @@
 -- Each report is given exactly when `Reported` says so, and the same of a plan alone.
 use Prim.Native.Nat.{ℕ}
-use mathlib.Core.Bool.{true≢false}
+use mathlib.Core.Bool.{true, true≢false}
 use mathlib.Core.List.{List, [], _∷_, _++_}
 use mathlib.Core.Logic.{_↔_, Iff·rfl, Iff·trans, inl, inr}
 use mathlib.Core.Path.{_≡_, refl, sym, ap, subst, _∙_}
 use Rattle.laws.proofs.Tests.{by-test}
-use Rattle.word.specs.Profile.{Profile}
+use Rattle.word.specs.Profile.{Profile, LP5523}
 use Rattle.word.specs.Steps.{addressAt}
 use Rattle.plan.specs.declared.EnginePlan.{EnginePlan}
 use Rattle.plan.specs.declared.EnginePlan.the-variants.{Unused}
@@ -15,7 +15,7 @@ use Rattle.plan.specs.declared.Verdict.the-variants.{Accept, WrongLength
 use Rattle.plan.specs.Verdict.{reportOf, isAccept}
 use Rattle.plan.specs.Ranges.{planAt, firstOf, InCode, InTable, tableAddresses}
 use Rattle.plan.specs.Conditions.{ValidRanges, CodeDisjoint, OpensTable, Condition}
-use Rattle.plan.specs.Tests.{holds}
+use Rattle.plan.specs.Tests.{holds, validRanges}
 use Rattle.plan.specs.Check.{joined, ofWord, ofRow, ofEngine, verdictsOf, checkOf, checkRangesOf}
 use Rattle.plan.specs.Reports.{AllValid, ValidBefore, DisjointBefore, WordsMet, EngineMet, BeforeEngine, BeforeWord, Reported, RangesReported}
 use Rattle.plan.specs.Theorems.{ReportsExactly, RangesExactly}
@@ -182,3 +182,11 @@ reports-exactly P p image = by-report (Reported P p image) (checkOf P p image) (
 
 pub ranges-exactly : RangesExactly
 ranges-exactly P p = by-report (RangesReported P p) (checkRangesOf P p) (ranges-accepted P p) (ranges-refused P p)
+
+-- where 11 and 12 have passed, each engine's ranges are valid
+pub ranges-valid : (p : Plan) → checkRangesOf LP5523 p ≡ Accept
+    → (validRanges LP5523 (p .engine1) ≡ true) × (validRanges LP5523 (p .engine2) ≡ true) × (validRanges LP5523 (p .engine3) ≡ true)
+ranges-valid p h =
+    let o = ranges-accepted LP5523 p .0 h .0 in
+    let t : (i : ℕ) → validRanges LP5523 (planAt LP5523 p i) ≡ true = λ i. tests-exactly LP5523 p [] (InvalidRange i) .1 (o i) in
+    (t 1, t 2, t 3)

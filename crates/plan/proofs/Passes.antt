@@ -1,6 +1,6 @@
 -- The parts together are checkOf.
 use Prim.Native.Nat.{ℕ, zero, suc, _+_, _-_}
-use mathlib.Core.Bool.{Bool, true, false, cond, false≢true}
+use mathlib.Core.Bool.{Bool, true, false, cond}
 use mathlib.Core.List.{List, [], _∷_, _++_, map}
 use mathlib.Core.Path.{_≡_, refl, sym, ap, _∙_}
 use borrow.Author.Tests.{eq-eqb, ne-eqb}
@@ -17,7 +17,7 @@ use Rattle.plan.specs.declared.Verdict.{Verdict}
 use Rattle.plan.specs.declared.Verdict.the-variants.{Accept, WrongLength, InvalidRange, CodeOverlapsTable, TableNotOpened}
 use Rattle.plan.specs.Ranges.{planAt, firstOf, codeAddresses, tableAddresses}
 use Rattle.word.specs.Decode.{wordAt}
-use Rattle.plan.specs.Tests.{holds, validRanges, opensTable}
+use Rattle.plan.specs.Tests.{holds, opensTable}
 use Rattle.plan.specs.Check.{engineNumbers, joined, ofWord, ofRow, ofEngine, firstFailing, checkOf, checkRangesOf}
 use Rattle.plan.specs.internal.Passes.{orElse, scan, validVerdict, overlapVerdict, wordVerdict, wordsVerdict, rowVerdict, rowsVerdict, codeVerdict, tableVerdict, engineVerdict, enginesVerdict}
 use Rattle.plan.proofs.Laws.{is-accept, or-accept, or-refused}
@@ -32,9 +32,6 @@ or-or u v w =
     (isAccept u)
     (λ h. ap (λ (x : Verdict). orElse x w) (or-accept u v h) ∙ sym (or-accept u (orElse v w) h))
     (λ h. ap (λ (x : Verdict). orElse x w) (or-refused u v h) ∙ or-refused u w h ∙ sym (or-refused u (orElse v w) h))
-
-left-accepts : (u v : Verdict) → isAccept (orElse u v) ≡ true → isAccept u ≡ true
-left-accepts u v e = by-test (isAccept u) (λ h. h) (λ h. ap isAccept (sym (or-refused u v h)) ∙ e)
 
 step : (b : Bool) (v w x y : Verdict) → (b ≡ false → isAccept v ≡ false) → x ≡ orElse w y → cond b x v ≡ orElse (cond b w v) y
 step true v w x y r e = e
@@ -146,18 +143,3 @@ module _ (p : Plan) (image : List ℕ) where
       ∙ ap (λ (v : Verdict). orElse v rest) (both-ranges p)
       ∙ or-or (validVerdict LP5523 p) (overlapVerdict LP5523 p) rest
       ∙ sym (whole ∙ simp (eq-eqb (length image) 96 h))
-
--- where 11 and 12 have passed, each engine is in order
-order-at : (a b c : Bool) (i j k : ℕ) → isAccept (cond a (cond b (cond c Accept (InvalidRange k)) (InvalidRange j)) (InvalidRange i)) ≡ true
-    → (a ≡ true) × (b ≡ true) × (c ≡ true)
-order-at true true true i j k e = (refl, refl, refl)
-order-at true true false i j k e = (refl, refl, e)
-order-at true false c i j k e = absurd (false≢true e)
-order-at false b c i j k e = absurd (false≢true e)
-
-pub all-valid-ranges : (p : Plan) → isAccept (checkRangesOf LP5523 p) ≡ true
-    → (validRanges LP5523 (p .engine1) ≡ true) × (validRanges LP5523 (p .engine2) ≡ true) × (validRanges LP5523 (p .engine3) ≡ true)
-unfolding validVerdict
-all-valid-ranges p e =
-    order-at (validRanges LP5523 (p .engine1)) (validRanges LP5523 (p .engine2)) (validRanges LP5523 (p .engine3)) 1 2 3
-    (left-accepts (validVerdict LP5523 p) (overlapVerdict LP5523 p) (ap isAccept (sym (both-ranges p)) ∙ e))

@@ -4,7 +4,9 @@ use Rattle.laws.proofs.Tests.{failed, passed}
 use Rattle.plan.specs.Verdict.{reportOf, isAccept}
 use Rattle.plan.proofs.Laws.{stops, goes-on}
 use Rattle.plan.proofs.Reports.{ranges-answer}
-use Rattle.plan.proofs.Passes.{wrong-length, right-length, all-valid-ranges}
+use Rattle.plan.proofs.Laws.{is-accept}
+use Rattle.plan.proofs.Exactly.{ranges-valid}
+use Rattle.plan.proofs.Passes.{wrong-length, right-length}
 use Rattle.checker.proofs.image.check.Statement.{statement}
 use Rattle.checker.proofs.image.check.Tie as tie
 
@@ -22,7 +24,7 @@ check-spec =
     (λ c κs.
     let c2 = c .before in let c3 = c2 .before in
     let e = ranges-answer (c3 .check-ranges .result) (c3 .before .before .before .args .plan) (c3 .check-ranges .ensures) in
-    let o = all-valid-ranges _ (sym (ap isAccept e) ∙ passed (c2 .is-accept .ensures) (c .if2 .left)) in
+    let o = ranges-valid _ (is-accept _ (sym (ap isAccept e) ∙ passed (c2 .is-accept .ensures) (c .if2 .left))) in
     (c3 .before .if1 .left, o .0, o .1, o .2))
     (λ c.
     let c2 = c .before in let c3 = c2 .before in let c4 = c3 .before in

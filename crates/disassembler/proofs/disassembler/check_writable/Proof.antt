@@ -4,7 +4,8 @@ use borrow.Author.Needs.{needs}
 use Rattle.plan.specs.Verdict.{isAccept}
 use Rattle.plan.proofs.Laws.{not-accept, stops, goes-on}
 use Rattle.plan.proofs.Reports.{ranges-answer}
-use Rattle.disassembler.proofs.Defined.{ranges-valid, not-writable, writable}
+use Rattle.plan.proofs.Exactly.{ranges-valid}
+use Rattle.disassembler.proofs.Defined.{not-writable, writable}
 use Rattle.disassembler.proofs.disassembler.check_writable.Statement.{statement}
 use Rattle.disassembler.proofs.disassembler.check_writable.Tie as tie
 

@@ -1,16 +1,13 @@
 -- `op_codec::words::word_of` meets its contract.
-use borrow.Author.Tests.{eqb-true, eqb-false}
 use mathlib.Core.List.{[], _∷_}
 use mathlib.Core.Path.{_≡_, refl, sym}
 use native.Mathlib.Omega.{arith}
-use Prim.Native.Nat.{ℕ, zero, suc, _≤_}
-use lib.Dec.{eqb}
+use Prim.Native.Nat.{ℕ, _≤_}
 use lib.ListN.{List·getD-eq-default}
 use Rattle.word.specs.Profile.{LP5523}
 use Rattle.word.specs.declared.Word.{Word}
 use Rattle.word.specs.declared.Word.the-variants.{Undefined}
-use Rattle.laws.proofs.Tests.{by-test}
-use Rattle.laws.proofs.Matches.{via}
+use Rattle.laws.proofs.Matches.{via, past}
 use Rattle.grammar.specs.declared.Values.{Values}
 use Rattle.grammar.specs.Values.{listOf}
 use Rattle.op_lines.specs.Words.{wordsWith, wordOf}
@@ -20,19 +17,6 @@ use Rattle.op_codec.proofs.words.word_of.Tie as tie
 -- The word at a place of the table, with the operands of some values.
 abbrev word-at : Values → ℕ → Word
 word-at v o = wordOf LP5523 (o ∷ v .b ∷ v .c ∷ v .d ∷ v .e ∷ [])
-
--- x is none of the numbers below k, as the last arm has it.
-abbrev Rest : ℕ → ℕ → Type 0
-Rest zero x = Unit {0}
-Rest (suc k) x = Rest k x × (x ≡ k → ⊥)
-
-past : (k x : ℕ) → Rest k x → k ≤ x
-past zero x r = omega arith
-past (suc k) x r =
-    by-test (eqb x k) (λ e. absurd (r .1 (eqb-true x k e))) λ e.
-    let h = past k x (r .0) in
-    let n = eqb-false x k e in
-    omega arith
 
 -- The last arm: there is no such operation.
 none : (v : Values) → 31 ≤ v .a → Undefined ≡ word-at v (v .a)
