@@ -1,5 +1,5 @@
 -- `line_reader::pairs::read_pairs` meets its contract. What is left of the form is the measure.
-use Prim.Native.Nat.{ℕ, _-_}
+use Prim.Native.Nat.{ℕ, _-_, _<_}
 use mathlib.Core.Path.{_≡_, sym, ap, _∙_}
 use native.Mathlib.Omega.{arith}
 use borrow.Fn.Kinds.{In}

@@ -1,5 +1,5 @@
 -- `text_bytes::writing::put_decimal` meets its contract. The number falls at each call.
-use Prim.Native.Nat.{ℕ}
+use Prim.Native.Nat.{ℕ, _<_}
 use mathlib.Core.Path.{sym, _∙_}
 use native.Mathlib.Omega.{arith}
 use borrow.Author.Needs.{needs}
