@@ -7,23 +7,11 @@ use super::turns::turn_three;
 use super::turns::turn_two;
 use crate::Cores;
 use crate::CoresTicked;
-ghost use mathlib.Core.Bool.{false, _||_};
+use engine_core::any;
 ghost use mathlib.Core.Path.{_≡_};
 ghost use Rattle.word.specs.Profile.{LP5523};
 ghost use Rattle.machine.specs.Tick.{turns};
 ghost use Rattle.beats.specs.internal.Parts.{Fixed, lent, chipOf, tickedOf};
-
-pub(super) fn any(a: bool, b: bool, c: bool) -> bool
-    ensures { λ r. ⌜ r ≡ (a || (b || (c || false))) ⌝ }
-{
-    if a {
-        return true;
-    }
-    if b {
-        return true;
-    }
-    c
-}
 
 pub(super) fn beat(
     k: Cores,

@@ -1,8 +1,8 @@
 // Whether a beat changes nothing, and whether a run stops before it.
-use super::beats::any;
 use crate::Cores;
 use engine_core::EngineCore;
 use engine_core::acts;
+use engine_core::any;
 use engine_core::is_load;
 ghost use mathlib.Core.List.{List};
 ghost use mathlib.Core.Path.{_≡_};

@@ -1,11 +1,10 @@
 -- The engines of a chip are three: what is said of their list is said of each in turn.
 use Prim.Native.Nat.{ℕ, zero, suc, _<_}
-use mathlib.Core.Bool.{Bool, true, false, _||_}
+use mathlib.Core.Bool.{Bool, false, _||_}
 use mathlib.Core.List.{List, [], _∷_, map}
 use mathlib.Core.Path.{_≡_, refl, sym, _∙_, ap}
 use native.Mathlib.Omega.{arith}
 use lib.ListN.{length, getD, length-map}
-use Rattle.laws.proofs.Tests.{or-false}
 use Rattle.machine.specs.Parts.{each}
 
 -- a list of three is its elements
@@ -20,19 +19,10 @@ three d (x ∷ (y ∷ (z ∷ (u ∷ us)))) h = absurd (omega arith)
 pub each-three : {A : Type 0} (f : ℕ → A → A) (d : A) (xs : List A) → length xs ≡ 3 → {x y z : A} → x ≡ f 0 (getD xs 0 d) → y ≡ f 1 (getD xs 1 d) → z ≡ f 2 (getD xs 2 d) → x ∷ (y ∷ (z ∷ [])) ≡ each f 0 xs
 each-three f d xs h p q r = rw (p, q, r) (sym (ap (each f 0) (three d xs h)))
 
--- a test F of the three that asks f 0 of the first, f 1 of the second and f 2 of the last, where the first, the second and the last settle it
-module _ {A : Type 0} (F : List A → Bool) (f : ℕ → A → Bool) (asks : (x y z : A) → F (x ∷ (y ∷ (z ∷ []))) ≡ (f 0 x || (f 1 y || (f 2 z || false)))) (d : A) (xs : List A) (l : length xs ≡ 3) where
-  all : F xs ≡ (f 0 (getD xs 0 d) || (f 1 (getD xs 1 d) || (f 2 (getD xs 2 d) || false)))
-  all = ap F (three d xs l) ∙ asks (getD xs 0 d) (getD xs 1 d) (getD xs 2 d)
-
-  pub first-so : {r : Bool} → r ≡ f 0 (getD xs 0 d) → r ≡ true → true ≡ F xs
-  first-so p h = rw (all, ← p, h)
-
-  pub second-so : {r s : Bool} → r ≡ f 0 (getD xs 0 d) → r ≡ false → s ≡ f 1 (getD xs 1 d) → s ≡ true → true ≡ F xs
-  second-so p h q k = rw (all, ← p, h, ← q, k)
-
-  pub third-so : {r s t : Bool} → r ≡ f 0 (getD xs 0 d) → r ≡ false → s ≡ f 1 (getD xs 1 d) → s ≡ false → t ≡ f 2 (getD xs 2 d) → t ≡ F xs
-  third-so p h q k e = rw (all, ← p, h, ← q, k) (e ∙ sym (or-false (f 2 (getD xs 2 d))))
+-- a test F of the three that asks f 0 of the first, f 1 of the second and f 2 of the last
+pub any-three : {A : Type 0} (F : List A → Bool) (f : ℕ → A → Bool) → ((x y z : A) → F (x ∷ (y ∷ (z ∷ []))) ≡ (f 0 x || (f 1 y || (f 2 z || false)))) →
+    (d : A) (xs : List A) → length xs ≡ 3 → {r a b c : Bool} → r ≡ (a || (b || (c || false))) → a ≡ f 0 (getD xs 0 d) → b ≡ f 1 (getD xs 1 d) → c ≡ f 2 (getD xs 2 d) → r ≡ F xs
+any-three F f asks d xs l e p q s = e ∙ rw (p, q, s) (sym (asks (getD xs 0 d) (getD xs 1 d) (getD xs 2 d)) ∙ ap F (sym (three d xs l)))
 
 -- an element that is there is the same whatever stands in for a missing one
 pub getD-any : {A : Type 0} (xs : List A) (i : ℕ) (d e : A) → i < length xs → getD xs i d ≡ getD xs i e

@@ -12,6 +12,7 @@ use machine::Pointers;
 use machine::Progress;
 pub use split::core_of;
 pub use split::engine_of;
+pub use state::any;
 pub use state::is_load;
 pub use state::mid_word;
 use word::Address;

@@ -1,6 +1,7 @@
-// Load mode, and a word in progress.
+// Load mode, a word in progress, and what any of the three engines does.
 use machine::Mode;
 use machine::Progress;
+ghost use mathlib.Core.Bool.{false, _||_};
 ghost use mathlib.Core.Path.{_≡_};
 ghost use Rattle.machine.specs.Turn.{midWord};
 ghost use Rattle.machine.specs.Tick.{isLoad};
@@ -32,4 +33,17 @@ pub fn mid_word(progress: Progress) -> bool
         } => true,
         Progress::Triggering { wait: _, send: _ } => true,
     }
+}
+
+// Whether any of three is so.
+pub fn any(a: bool, b: bool, c: bool) -> bool
+    ensures { λ r. ⌜ r ≡ (a || (b || (c || false))) ⌝ }
+{
+    if a {
+        return true;
+    }
+    if b {
+        return true;
+    }
+    c
 }

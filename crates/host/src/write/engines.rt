@@ -1,5 +1,6 @@
 // What the numbers 4 to 7 ask of the engines.
 use crate::write::fields::mode_of;
+use engine_core::any;
 use engine_core::is_load;
 use engine_core::mid_word;
 use machine::Engine;
@@ -7,10 +8,10 @@ use machine::Mode;
 ghost use mathlib.Core.Bool.{_&&_};
 ghost use mathlib.Core.Path.{_≡_};
 ghost use Prim.Native.Nat.{_<_};
-ghost use Rattle.machine.specs.Tick.{some, isLoad};
+ghost use Rattle.machine.specs.Turn.{midWord};
+ghost use Rattle.machine.specs.Tick.{isLoad, loads};
 ghost use Rattle.machine.specs.Registers.{pairOf, modeOf};
 ghost use Rattle.machine.specs.Judged.{inUse, loadRefused, memoryInUse};
-ghost use Rattle.host.specs.internal.Asked.{isSo};
 
 // In run or halt.
 pub(super) fn in_use(mode: Mode) -> bool
@@ -41,59 +42,38 @@ pub(super) fn load_refused(engines: [Engine; 3], byte: u8) -> bool
     ensures { λ r. ⌜ r ≡ loadRefused byte 0 engines ⌝ }
 {
     let one = engines[0];
-    if refuses_load(one, byte, 0) {
-        return true;
-    }
     let two = engines[1];
-    if refuses_load(two, byte, 1) {
-        return true;
-    }
     let three = engines[2];
-    refuses_load(three, byte, 2)
+    any(
+        refuses_load(one, byte, 0),
+        refuses_load(two, byte, 1),
+        refuses_load(three, byte, 2),
+    )
 }
 
-// What 6 asks of each engine.
-enum Asked {
-    Loads,
-    MidWord,
-}
-
-fn is_so(e: Engine, asked: Asked) -> bool
-    ensures { λ r. ⌜ r ≡ isSo asked e ⌝ }
+fn loads(e: Engine) -> bool
+    ensures { λ r. ⌜ r ≡ loads e ⌝ }
 {
-    match asked {
-        Asked::Loads => {
-            let mode = e.mode;
-            is_load(mode)
-        }
-        Asked::MidWord => {
-            let progress = e.progress;
-            mid_word(progress)
-        }
-    }
+    let mode = e.mode;
+    is_load(mode)
 }
 
-fn some_engine(engines: [Engine; 3], asked: Asked) -> bool
-    ensures { λ r. ⌜ r ≡ some (isSo asked) engines ⌝ }
+fn in_word(e: Engine) -> bool
+    ensures { λ r. ⌜ r ≡ midWord (e .progress) ⌝ }
 {
-    let one = engines[0];
-    if is_so(one, asked) {
-        return true;
-    }
-    let two = engines[1];
-    if is_so(two, asked) {
-        return true;
-    }
-    let three = engines[2];
-    is_so(three, asked)
+    let progress = e.progress;
+    mid_word(progress)
 }
 
 // 6
 pub(super) fn memory_in_use(engines: [Engine; 3]) -> bool
     ensures { λ r. ⌜ r ≡ memoryInUse engines ⌝ }
 {
-    if !some_engine(engines, Asked::Loads) {
+    let one = engines[0];
+    let two = engines[1];
+    let three = engines[2];
+    if !any(loads(one), loads(two), loads(three)) {
         return true;
     }
-    some_engine(engines, Asked::MidWord)
+    any(in_word(one), in_word(two), in_word(three))
 }

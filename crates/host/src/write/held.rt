@@ -1,4 +1,5 @@
 // Whether an engine holds an output.
+use engine_core::any;
 use machine::Engine;
 ghost use mathlib.Core.Path.{_≡_};
 ghost use Prim.Native.Nat.{_<_};
@@ -17,11 +18,9 @@ pub(super) fn is_held(engines: [Engine; 3], k: u16) -> bool
     requires { ⌜ k < 9 ⌝ }
     ensures { λ r. ⌜ r ≡ some (λ e. bit (e .mask) k) engines ⌝ }
 {
-    if has_bit(engines[0].mask, k) {
-        return true;
-    }
-    if has_bit(engines[1].mask, k) {
-        return true;
-    }
-    has_bit(engines[2].mask, k)
+    any(
+        has_bit(engines[0].mask, k),
+        has_bit(engines[1].mask, k),
+        has_bit(engines[2].mask, k),
+    )
 }
