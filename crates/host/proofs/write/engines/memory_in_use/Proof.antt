@@ -24,17 +24,18 @@ count c = search needs
 
 any-loads : (c : tie.After-any) → c .any .result ≡ some loads (c .before .before .before .before .before .before .before .args .t1)
 any-loads c =
-    let c1 = c .before in let c2 = c1 .before in let c3 = c2 .before in
-    any-three (some loads) (λ i. loads) (λ x y z. refl) _ _ (count c) (c .any .ensures) (c3 .loads .ensures) (c2 .loads2 .ensures) (c1 .loads3 .ensures)
+    let c1 = c .before in let c2 = c1 .before in let c3 = c2 .before in let k = c3 .before .before .before .before .args in
+    any-three (some loads) (λ i. loads) (λ x y z. refl) _ (k .t1) (count c) (c .any .ensures) (c3 .loads .ensures) (c2 .loads2 .ensures) (c1 .loads3 .ensures)
 
 returns : tie.Need-returns
-returns c = asked-first _ (any-loads (c .before)) (c .if1 .taken)
+returns c = let a = c .before in asked-first (a .before .before .before .before .before .before .before .args .t1) (any-loads a) (c .if1 .taken)
 
 returns-2 : tie.Need-returns-2
 returns-2 c =
     let c1 = c .before in let c2 = c1 .before in let c3 = c2 .before in let a = c3 .before .before in
-    any-three (some inWord) (λ i. inWord) (λ x y z. refl) _ _ (count a) (c .any2 .ensures) (c3 .in-word .ensures) (c2 .in-word2 .ensures) (c1 .in-word3 .ensures)
-    ∙ asked-first _ (any-loads a) (c3 .before .if1 .left)
+    let k = a .before .before .before .before .before .before .before .args in
+    any-three (some inWord) (λ i. inWord) (λ x y z. refl) _ (k .t1) (count a) (c .any2 .ensures) (c3 .in-word .ensures) (c2 .in-word2 .ensures) (c1 .in-word3 .ensures)
+    ∙ asked-first (k .t1) (any-loads a) (c3 .before .if1 .left)
 
 pub memory-in-use-spec : {M : Type 1} → statement M
 memory-in-use-spec =
