@@ -204,7 +204,7 @@ fn mux_move_code(op: MuxMoveOp) -> u16
     }
 }
 
-// Words of the mapping table, and those after them in `Word`, counted from 0.
+// The words from mux on, in the order of `Word`: its cases have the numbers 10 and above.
 fn encode_later(word: Word) -> Coded
     requires { ⌜ 10 ≤ tagOf the-type word ⌝ }
     ensures { λ r. ⌜ answerOf r ≡ encodeOf LP5523 word ⌝ }
