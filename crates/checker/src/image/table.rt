@@ -19,20 +19,26 @@ ghost use Rattle.plan.specs.internal.Passes.{rowVerdict, rowsVerdict, tableVerd
 fn is_start(usage: TableUse) -> bool
     ensures { λ r. ⌜ r ≡ isStart usage ⌝ }
 {
-    if let TableUse::StartAt(_) = usage {
-        true
-    } else {
-        false
+    match usage {
+        TableUse::Nothing => false,
+        TableUse::StartAt(_) => true,
+        TableUse::EndAt(_) => false,
+        TableUse::RowAt(_) => false,
+        TableUse::Forward => false,
+        TableUse::Backward => false,
     }
 }
 
 fn is_end(usage: TableUse) -> bool
     ensures { λ r. ⌜ r ≡ isEnd usage ⌝ }
 {
-    if let TableUse::EndAt(_) = usage {
-        true
-    } else {
-        false
+    match usage {
+        TableUse::Nothing => false,
+        TableUse::StartAt(_) => false,
+        TableUse::EndAt(_) => true,
+        TableUse::RowAt(_) => false,
+        TableUse::Forward => false,
+        TableUse::Backward => false,
     }
 }
 

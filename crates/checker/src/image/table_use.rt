@@ -32,10 +32,13 @@ fn use_inside(top: Address, bottom: Address, usage: TableUse) -> bool
 fn no_use(usage: TableUse) -> bool
     ensures { λ r. ⌜ r ≡ noUse usage ⌝ }
 {
-    if let TableUse::Nothing = usage {
-        true
-    } else {
-        false
+    match usage {
+        TableUse::Nothing => true,
+        TableUse::StartAt(_) => false,
+        TableUse::EndAt(_) => false,
+        TableUse::RowAt(_) => false,
+        TableUse::Forward => false,
+        TableUse::Backward => false,
     }
 }
 
