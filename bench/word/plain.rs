@@ -1,5 +1,6 @@
 //! A plain decoder of the LP5523's instruction words, written from document 01's table and source
-//! document 004's instruction tables, to compare the proved one with.
+//! document 004's instruction tables, to compare the proved one with. Its functions are inlined into
+//! both of their callers, as into a single one.
 
 /// An instruction word with its operands in the order of its sheet line.
 pub enum Word {
@@ -34,6 +35,7 @@ pub enum Word {
     Undefined,
 }
 
+#[inline(always)]
 fn ramp(w: u16) -> Word {
     let (p, t, n) = (w >> 14, w >> 9 & 31, w & 255);
     match (t, w >> 8 & 1, n) {
@@ -43,6 +45,7 @@ fn ramp(w: u16) -> Word {
     }
 }
 
+#[inline(always)]
 fn mux(w: u16) -> Word {
     let a = w & 127;
     match w {
@@ -61,6 +64,7 @@ fn mux(w: u16) -> Word {
     }
 }
 
+#[inline(always)]
 fn sum(w: u16) -> Word {
     let (v, n, l, r) = (w >> 10 & 3, w & 255, w >> 2 & 3, w & 3);
     match w >> 8 & 3 {
@@ -75,6 +79,7 @@ fn sum(w: u16) -> Word {
     }
 }
 
+#[inline(always)]
 fn trigger(w: u16) -> Word {
     // bits 11, 10, 5, 4 and 0 are reserved
     if w & 0x0C31 != 0 {
@@ -83,6 +88,7 @@ fn trigger(w: u16) -> Word {
     Word::Trigger(w >> 7 & 63, w >> 1 & 63)
 }
 
+#[inline(always)]
 pub fn decode(w: u16) -> Word {
     let (l, r) = (w >> 2 & 3, w & 3);
     match w {
@@ -103,11 +109,13 @@ pub fn decode(w: u16) -> Word {
     }
 }
 
+#[inline(always)]
 fn fold(op: u16, a: u16, b: u16, c: u16, d: u16) -> u64 {
     (((op as u64 * 257 + a as u64) * 257 + b as u64) * 257 + c as u64) * 257 + d as u64
 }
 
 /// A word's place in document 01's table and its operands, folded into one number.
+#[inline(always)]
 pub fn digest(w: Word) -> u64 {
     match w {
         Word::Rst => fold(0, 0, 0, 0, 0),

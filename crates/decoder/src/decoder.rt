@@ -1,9 +1,8 @@
-// From 16 bits to an instruction word. The leading four bits choose the function that reads the
-// rest; what was read is kept if it encodes to the same bits again.
+// From 16 bits to an instruction word. The leading four bits choose the function that knows the rows
+// of the table that begin so; it tests their ranges and reserved bits.
 use word::Address;
 use word::ArithOp;
 use word::ArithVarOp;
-use word::Coded;
 use word::Direction;
 use word::JumpOp;
 use word::MuxAtOp;
@@ -12,54 +11,97 @@ use word::Step;
 use word::Word;
 ghost use mathlib.Core.Path.{_≡_};
 ghost use Prim.Native.Nat.{_/_, _%_, _≤_, _<_};
-ghost use Rattle.word.specs.declared.Word.the-variants.{Jump, Arith, ArithVar};
+ghost use mathlib.Core.Bool.{cond};
+ghost use lib.Dec.{eqb};
+ghost use Rattle.word.specs.declared.Direction.the-variants.{Up, Down};
+ghost use Rattle.word.specs.declared.Word.the-variants.{Jump, Arith, ArithVar, MuxAt};
 ghost use Rattle.word.specs.Profile.{LP5523};
-ghost use Rattle.word.specs.Decode.{choose, ramps, rampVars, sums, reading, decodeOf};
+ghost use Rattle.word.specs.Steps.{addressAt};
+ghost use Rattle.word.specs.Decode.{decodeOf};
 
-fn ramp_at(code: u16) -> Word
-    ensures { λ r. ⌜ r ≡ choose (code % 512) (ramps code) ⌝ }
+// The sign of a ramp.
+fn direction(bit: u16) -> Direction
+    ensures { λ r. ⌜ r ≡ cond (eqb bit 0) Up Down ⌝ }
 {
-    let prescale = code / 16384 % 2;
-    let time = code / 512 % 32;
-    if code % 512 < 1 {
-        return Word::Wait { prescale, time };
+    if bit == 0 {
+        return Direction::Up;
     }
-    let count = code % 256;
-    if code % 512 < 256 {
-        return Word::Ramp {
-            prescale,
-            time,
-            dir: Direction::Up,
-            count,
-        };
+    Direction::Down
+}
+
+// Words that begin with 0 to 7: with a time they are wait and ramp.
+fn from_0(code: u16) -> Word
+    requires { ⌜ code < 0x8000 ⌝ }
+    ensures { λ r. ⌜ r ≡ decodeOf LP5523 code ⌝ }
+{
+    let prescale = code / 16384;
+    let time = code / 512 % 32;
+    if time == 0 {
+        if code == 0 {
+            return Word::Rst;
+        }
+        if code / 256 == 0x40 {
+            return Word::Set { value: code % 256 };
+        }
+        return Word::Undefined;
+    }
+    if code % 512 == 0 {
+        return Word::Wait { prescale, time };
     }
     Word::Ramp {
         prescale,
         time,
-        dir: Direction::Down,
-        count,
+        dir: direction(code / 256 % 2),
+        count: code % 256,
     }
 }
 
-fn ramp_var_at(code: u16) -> Word
-    ensures { λ r. ⌜ r ≡ choose (code % 32) (rampVars code) ⌝ }
+// Words that begin with 84 or 85: ramps by variables, with the sign in bit 4, and set-var, 8460 to 8463.
+fn from_84(code: u16) -> Word
+    requires { ⌜ (0x8400 ≤ code) × (code < 0x8600) ⌝ }
+    ensures { λ r. ⌜ r ≡ decodeOf LP5523 code ⌝ }
 {
-    let prescale = code / 32 % 2;
-    let time = code / 4 % 4;
-    let count = code % 4;
-    if code % 32 < 16 {
+    if code < 0x8440 {
         return Word::RampVar {
-            prescale,
-            dir: Direction::Up,
-            time,
-            count,
+            prescale: code / 32 % 2,
+            dir: direction(code / 16 % 2),
+            time: code / 4 % 4,
+            count: code % 4,
         };
     }
-    Word::RampVar {
-        prescale,
-        dir: Direction::Down,
-        time,
-        count,
+    if code / 4 == 0x2118 {
+        return Word::SetVar { from: code % 4 };
+    }
+    Word::Undefined
+}
+
+fn jump_at(code: u16, op: JumpOp) -> Word
+    ensures { λ r. ⌜ r ≡ Jump op (code / 16 % 32) (code / 4 % 4) (code % 4) ⌝ }
+{
+    Word::Jump {
+        op,
+        skip: code / 16 % 32,
+        left: code / 4 % 4,
+        right: code % 4,
+    }
+}
+
+// Words that begin with 8, by the three bits that follow.
+fn from_8(code: u16) -> Word
+    requires { ⌜ (0x8000 ≤ code) × (code < 0x9000) ⌝ }
+    ensures { λ r. ⌜ r ≡ decodeOf LP5523 code ⌝ }
+{
+    match code / 512 % 8 {
+        0..=1 => Word::Undefined,
+        2 => from_84(code),
+        3 => Word::BranchVar {
+            loops: code % 4,
+            step: Step(code / 4 % 128),
+        },
+        4 => jump_at(code, JumpOp::Jne),
+        5 => jump_at(code, JumpOp::Jl),
+        6 => jump_at(code, JumpOp::Jge),
+        _ => jump_at(code, JumpOp::Je),
     }
 }
 
@@ -84,198 +126,141 @@ fn arith_var_at(code: u16, op: ArithVarOp) -> Word
     }
 }
 
+// Sums of variables, by bits 7:4.
+fn sum_var_at(code: u16) -> Word
+    requires { ⌜ (0x9000 ≤ code) × (code < 0x9C00) × (code / 256 % 4 ≡ 3) ⌝ }
+    ensures { λ r. ⌜ r ≡ decodeOf LP5523 code ⌝ }
+{
+    match code / 16 % 16 {
+        0 => arith_var_at(code, ArithVarOp::AddVar),
+        1 => arith_var_at(code, ArithVarOp::SubVar),
+        _ => Word::Undefined,
+    }
+}
+
+// Words that write a variable, by bits 9:8.
 fn sum_at(code: u16) -> Word
-    ensures { λ r. ⌜ r ≡ choose (code % 1024) (sums code) ⌝ }
+    requires { ⌜ (0x9000 ≤ code) × (code < 0x9C00) ⌝ }
+    ensures { λ r. ⌜ r ≡ decodeOf LP5523 code ⌝ }
 {
-    if code % 1024 < 0x100 {
-        return arith_at(code, ArithOp::Ld);
-    }
-    if code % 1024 < 0x200 {
-        return arith_at(code, ArithOp::Add);
-    }
-    if code % 1024 < 0x300 {
-        return arith_at(code, ArithOp::Sub);
-    }
-    if code % 1024 < 0x310 {
-        return arith_var_at(code, ArithVarOp::AddVar);
-    }
-    arith_var_at(code, ArithVarOp::SubVar)
-}
-
-fn jump_at(code: u16, op: JumpOp) -> Word
-    ensures { λ r. ⌜ r ≡ Jump op (code / 16 % 32) (code / 4 % 4) (code % 4) ⌝ }
-{
-    Word::Jump {
-        op,
-        skip: code / 16 % 32,
-        left: code / 4 % 4,
-        right: code % 4,
+    match code / 256 % 4 {
+        0 => arith_at(code, ArithOp::Ld),
+        1 => arith_at(code, ArithOp::Add),
+        2 => arith_at(code, ArithOp::Sub),
+        _ => sum_var_at(code),
     }
 }
 
-// Words that begin with 0 to 7.
-fn from_0(code: u16) -> Word
-    requires { ⌜ code < 0x8000 ⌝ }
-    ensures { λ r. ⌜ r ≡ reading code ⌝ }
-{
-    if code < 0x0200 {
-        return Word::Rst;
-    }
-    if code < 0x4000 {
-        return ramp_at(code);
-    }
-    if code < 0x4200 {
-        return Word::Set { value: code % 256 };
-    }
-    ramp_at(code)
-}
-
-// Words that begin with 8.
-fn from_8(code: u16) -> Word
-    requires { ⌜ (0x8000 ≤ code) × (code < 0x9000) ⌝ }
-    ensures { λ r. ⌜ r ≡ reading code ⌝ }
-{
-    if code < 0x8460 {
-        return ramp_var_at(code);
-    }
-    if code < 0x8600 {
-        return Word::SetVar { from: code % 4 };
-    }
-    if code < 0x8800 {
-        return Word::BranchVar {
-            loops: code % 4,
-            step: Step(code / 4 % 128),
-        };
-    }
-    if code < 0x8A00 {
-        return jump_at(code, JumpOp::Jne);
-    }
-    if code < 0x8C00 {
-        return jump_at(code, JumpOp::Jl);
-    }
-    if code < 0x8E00 {
-        return jump_at(code, JumpOp::Jge);
-    }
-    jump_at(code, JumpOp::Je)
-}
-
-// Words that begin with 9.
-fn from_9(code: u16) -> Word
-    requires { ⌜ (0x9000 ≤ code) × (code < 0xA000) ⌝ }
-    ensures { λ r. ⌜ r ≡ reading code ⌝ }
-{
-    if code < 0x9C00 {
-        return sum_at(code);
-    }
-    let address = Address(code % 128);
-    if code < 0x9C80 {
-        return Word::MuxAt {
-            op: MuxAtOp::MuxMapStart,
-            address,
-        };
-    }
-    if code < 0x9D00 {
-        return Word::MuxAt {
-            op: MuxAtOp::MuxLdEnd,
-            address,
-        };
-    }
-    if code < 0x9E00 {
-        return from_9d(code);
-    }
-    if code < 0x9F00 {
-        return Word::MuxAt {
-            op: MuxAtOp::MuxLdStart,
-            address,
-        };
-    }
-    if code < 0x9F80 {
-        return Word::MuxAt {
-            op: MuxAtOp::MuxLdAddr,
-            address,
-        };
-    }
-    Word::MuxAt {
-        op: MuxAtOp::MuxMapAddr,
-        address,
-    }
-}
-
-// Words that begin with 9D.
+// Words that begin with 9D: mux-clr, mux-sel and the moves.
 fn from_9d(code: u16) -> Word
     requires { ⌜ (0x9D00 ≤ code) × (code < 0x9E00) ⌝ }
-    ensures { λ r. ⌜ r ≡ reading code ⌝ }
+    ensures { λ r. ⌜ r ≡ decodeOf LP5523 code ⌝ }
 {
-    if code < 0x9D01 {
-        return Word::MuxClr;
-    }
-    if code < 0x9D80 {
-        return Word::MuxSel { output: code % 128 };
-    }
-    if code < 0x9D81 {
-        return Word::MuxMove {
+    let low = code % 256;
+    match low {
+        0 => Word::MuxClr,
+        1..=9 => Word::MuxSel { output: low },
+        16 => Word::MuxSel { output: low },
+        0x80 => Word::MuxMove {
             op: MuxMoveOp::MuxMapNext,
-        };
-    }
-    if code < 0x9DC0 {
-        return Word::MuxMove {
+        },
+        0x81 => Word::MuxMove {
             op: MuxMoveOp::MuxLdNext,
-        };
-    }
-    if code < 0x9DC1 {
-        return Word::MuxMove {
+        },
+        0xC0 => Word::MuxMove {
             op: MuxMoveOp::MuxMapPrev,
-        };
+        },
+        0xC1 => Word::MuxMove {
+            op: MuxMoveOp::MuxLdPrev,
+        },
+        _ => Word::Undefined,
     }
-    Word::MuxMove {
-        op: MuxMoveOp::MuxLdPrev,
+}
+
+fn mux_at(code: u16, op: MuxAtOp) -> Word
+    ensures { λ r. ⌜ r ≡ MuxAt op (addressAt (code % 128)) ⌝ }
+{
+    Word::MuxAt {
+        op,
+        address: Address(code % 128),
+    }
+}
+
+// Mapping words: those with an address by bits 9:7.
+fn mux(code: u16) -> Word
+    requires { ⌜ (0x9C00 ≤ code) × (code < 0xA000) ⌝ }
+    ensures { λ r. ⌜ r ≡ decodeOf LP5523 code ⌝ }
+{
+    if code / 256 == 0x9D {
+        return from_9d(code);
+    }
+    if code % 128 >= 96 {
+        return Word::Undefined;
+    }
+    match code / 128 % 8 {
+        0 => mux_at(code, MuxAtOp::MuxMapStart),
+        1 => mux_at(code, MuxAtOp::MuxLdEnd),
+        4 => mux_at(code, MuxAtOp::MuxLdStart),
+        6 => mux_at(code, MuxAtOp::MuxLdAddr),
+        7 => mux_at(code, MuxAtOp::MuxMapAddr),
+        _ => Word::Undefined,
     }
 }
 
 // Words that begin with C or D.
 fn from_c(code: u16) -> Word
     requires { ⌜ (0xC000 ≤ code) × (code < 0xE000) ⌝ }
-    ensures { λ r. ⌜ r ≡ reading code ⌝ }
+    ensures { λ r. ⌜ r ≡ decodeOf LP5523 code ⌝ }
 {
-    let int = code / 4096 % 2;
-    let reset = code / 2048 % 2;
-    if code < 0xC400 {
-        return Word::End { int, reset };
+    if code % 2048 == 0 {
+        return Word::End {
+            int: code / 4096 % 2,
+            reset: code / 2048 % 2,
+        };
     }
-    if code < 0xC401 {
+    if code == 0xC400 {
         return Word::Int;
     }
-    Word::End { int, reset }
+    Word::Undefined
 }
 
-// The word that a code's place in the table promises, its operands read from their bits.
-fn read(code: u16) -> Word
-    ensures { λ r. ⌜ r ≡ reading code ⌝ }
+// Words that begin with E or F: bits 3 and 4 of both fields and bit 0 are reserved.
+fn from_e(code: u16) -> Word
+    requires { ⌜ 0xE000 ≤ code ⌝ }
+    ensures { λ r. ⌜ r ≡ decodeOf LP5523 code ⌝ }
 {
-    match code / 4096 {
-        0..=7 => from_0(code),
-        8 => from_8(code),
-        9 => from_9(code),
-        10..=11 => Word::Branch {
-            loops: code / 128 % 64,
-            step: Step(code % 128),
-        },
-        12..=13 => from_c(code),
-        _ => Word::Trigger {
-            wait: code / 128 % 64,
-            send: code / 2 % 64,
-        },
+    let wait = code / 128 % 64;
+    let send = code / 2 % 64;
+    if wait / 8 % 4 != 0 {
+        return Word::Undefined;
     }
+    if send / 8 % 4 != 0 {
+        return Word::Undefined;
+    }
+    if code % 2 != 0 {
+        return Word::Undefined;
+    }
+    Word::Trigger { wait, send }
 }
 
 // The word that 16 bits are; Undefined where no word has them.
 pub fn decode(code: u16) -> Word
     ensures { λ r. ⌜ r ≡ decodeOf LP5523 code ⌝ }
 {
-    let word = read(code);
-    match encoder::encode(word) {
-        Coded::Code(again) => { if again == code { word } else { Word::Undefined } }
-        Coded::OutsideField => Word::Undefined,
-        Coded::UndefinedWord => Word::Undefined,
+    match code / 4096 {
+        0..=7 => from_0(code),
+        8 => from_8(code),
+        // by the variable that is written; 3 is none. A match, since the code compiled from an `if` is
+        // slower (bench/README.md)
+        9 => match code / 1024 % 4 {
+            3 => mux(code),
+            _ => sum_at(code),
+        },
+        10..=11 => Word::Branch {
+            loops: code / 128 % 64,
+            step: Step(code % 128),
+        },
+        12..=13 => from_c(code),
+        _ => from_e(code),
     }
 }

@@ -140,7 +140,7 @@ unfolding decodeOf
 decoded-encodes P w n = kept P w (reading w) (isSuccess (encodeOf P (reading w)) w) refl n
 
 -- ---- 3
-dropped : (P : Profile) (w : ℕ) (i : Word) (b : Bool) → isSuccess (encodeOf P i) w ≡ b → (encodeOf P i ≡ success w → ⊥) → cond b i Undefined ≡ Undefined
+pub dropped : (P : Profile) (w : ℕ) (i : Word) (b : Bool) → isSuccess (encodeOf P i) w ≡ b → (encodeOf P i ≡ success w → ⊥) → cond b i Undefined ≡ Undefined
 dropped P w i true q n = absurd (n (is-success (encodeOf P i) w q))
 dropped P w i false q n = refl
 

@@ -1,9 +1,9 @@
--- `decoder::decoder::read` meets its contract: the tests that led to a return bound the code. Assumes nothing.
+-- `confirming_decoder::decoder::read` meets its contract: the tests that led to a return bound the code. Assumes nothing.
 use borrow.Author.Needs.{needs}
 use native.Mathlib.Omega.{arith}
 use Rattle.word.proofs.Candidates.{row}
-use Rattle.decoder.proofs.decoder.read.Statement.{statement}
-use Rattle.decoder.proofs.decoder.read.Tie as tie
+use Rattle.confirming_decoder.proofs.decoder.read.Statement.{statement}
+use Rattle.confirming_decoder.proofs.decoder.read.Tie as tie
 
 pub read-spec : {M : Type 1} → statement M
 read-spec =

@@ -1,10 +1,10 @@
--- `decoder::decoder::from_9` meets its contract: the tests that led to a return bound the code. Assumes nothing.
+-- `confirming_decoder::decoder::from_9` meets its contract: the tests that led to a return bound the code. Assumes nothing.
 use mathlib.Core.Path.{_∙_}
 use borrow.Author.Needs.{needs}
 use native.Mathlib.Omega.{arith}
 use Rattle.word.proofs.Candidates.{row}
-use Rattle.decoder.proofs.decoder.from_9.Statement.{statement}
-use Rattle.decoder.proofs.decoder.from_9.Tie as tie
+use Rattle.confirming_decoder.proofs.decoder.from_9.Statement.{statement}
+use Rattle.confirming_decoder.proofs.decoder.from_9.Tie as tie
 
 pub from-9-spec : {M : Type 1} → statement M
 from-9-spec =
