@@ -1,6 +1,6 @@
 //! A plain decoder of the LP5523's instruction words, written from document 01's table and source
-//! document 004's instruction tables, to compare the proved one with. Its functions are inlined into
-//! both of their callers, as into a single one.
+//! document 004's instruction tables, to compare the proved one with. Its functions are
+//! always inlined: they have two callers, so the compiler would call them, and they would be slower.
 
 /// An instruction word with its operands in the order of its sheet line.
 pub enum Word {
