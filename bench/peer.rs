@@ -50,3 +50,10 @@ impl Peer {
         self.child.wait().map(|_| ())
     }
 }
+
+/// The processor's name, as the system tells it.
+pub fn processor() -> String {
+    let told = std::fs::read_to_string("/proc/cpuinfo").unwrap_or_default();
+    let line = told.lines().find(|line| line.starts_with("model name"));
+    line.and_then(|line| line.split(": ").nth(1)).unwrap_or("unknown").to_string()
+}

@@ -116,6 +116,7 @@ fn main() -> Result<()> {
     if compare(&mut peer, sheets)? != 0 {
         std::process::exit(1);
     }
+    println!("processor: {}", peer::processor());
     println!("timed: file read, sheet assembled, image printed; on the proved side by lights, its commands and answers through pipes");
     time(&mut peer, "worked example", &generate::worked())?;
     time(&mut peer, "every line an op", &generate::all_code())?;

@@ -1,6 +1,7 @@
 //! Compares the proved chip, as the program `lights` runs it on its bench, with a plain one: every
-//! answer and the states of random scripts of calls, then the beats per second of both on the same
-//! calls, in one run. The first argument is the number of random scripts.
+//! answer and the states of random scripts of calls, then the time of a beat of both on the same
+//! calls, in one run. The first argument is the number of random scripts. With `lines NAME BEATS` it prints
+//! a timed program's lines.
 mod calls;
 mod coverage;
 mod generate;
@@ -9,6 +10,7 @@ mod peer;
 mod plain;
 mod state;
 mod timing;
+#[path = "../words.rs"]
 mod words;
 
 use calls::Call;
@@ -105,27 +107,35 @@ fn beats_run(script: &[Call]) -> u32 {
     script.iter().map(beats).sum()
 }
 
+/// The best times of many, in turn.
 fn time(peer: &mut Peer, name: &str, script: &[Call]) -> Result<()> {
-    let beats = beats_run(script);
     let mut best = (f64::MAX, f64::MAX);
     peer.tell("bench\n")?;
-    for _ in 0..10 {
+    for _ in 0..50 {
         best = (best.0.min(proved_seconds(peer, script)?), best.1.min(plain_seconds(script)));
     }
     peer.tell("quit\n")?;
-    let speed = |seconds: f64| f64::from(beats) / seconds / 1e6;
-    let (ours, theirs, ratio) = (speed(best.0), speed(best.1), best.0 / best.1);
-    println!("{name}: beats={beats} proved={ours:.2} Mbeats/s plain={theirs:.2} Mbeats/s ratio={ratio:.2}");
+    let beats = beats_run(script);
+    let [ours, theirs] = [best.0, best.1].map(|seconds| seconds * 1e9 / f64::from(beats));
+    println!("{name}: beats={beats} proved={ours:.1} plain={theirs:.1} ns/beat ratio={:.2}", ours / theirs);
     Ok(())
 }
 
 fn main() -> Result<()> {
-    let scripts = std::env::args().nth(1).and_then(|count| count.parse().ok()).unwrap_or(20_000);
+    let arguments: Vec<String> = std::env::args().skip(1).collect();
+    if let [lines, name, beats] = &arguments[..] {
+        assert_eq!(lines, "lines");
+        print!("{}", lines_of(&timing::script(name, beats.parse().expect("a number of beats"))));
+        return Ok(());
+    }
+    let scripts = arguments.first().and_then(|count| count.parse().ok()).unwrap_or(20_000);
     let mut peer = Peer::start("target/bin/lights")?;
     if compare(&mut peer, scripts)? != 0 {
         std::process::exit(1);
     }
-    time(&mut peer, "busy", &timing::busy())?;
-    time(&mut peer, "worked", &timing::worked())?;
+    println!("processor: {}; plain decoder {}", peer::processor(), if cfg!(called) { "called" } else { "inlined" });
+    for name in timing::NAMES {
+        time(&mut peer, name, &timing::script(name, 300_000))?;
+    }
     peer.end()
 }

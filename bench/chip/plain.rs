@@ -1,6 +1,6 @@
 //! A plain simulator of the LP5523's three engines, ten outputs and host registers, written from
 //! document 01 alone, to compare the proved one with. It changes the chip in place.
-use crate::words::{beats, decode, Test, Word};
+use crate::words::{decode, Test, Word};
 
 /// The program memory has this many words.
 pub const WORDS: usize = 96;
@@ -134,6 +134,11 @@ fn mode_of(bits: u8) -> Mode {
         2 => Mode::Run,
         _ => Mode::Halt,
     }
+}
+
+/// `time` units of one beat, or of 32 if slow.
+fn beats(time: u8, slow: bool) -> u16 {
+    u16::from(time) * if slow { 32 } else { 1 }
 }
 
 /// The row bit of output k: D1 to D9 are 1 to 9, the GPO is 16.
@@ -404,8 +409,8 @@ impl Chip {
     fn execute(&mut self, i: usize, at: usize, word: Word, pin: &mut bool) -> bool {
         match word {
             Word::Rst => self.engines[i].rst(),
-            Word::Ramp { part, up, count } => self.begin_ramp(i, up, part, count),
-            Word::Wait { beats } => self.engines[i].wait(beats),
+            Word::Ramp { slow, time, up, count } => self.begin_ramp(i, up, beats(time, slow), count),
+            Word::Wait { slow, time } => self.engines[i].wait(beats(time, slow)),
             Word::Set { value } => self.set(i, value),
             Word::RampVar { slow, up, time, count } => {
                 // both are read at the fetch; the time counts as 1 to 31

@@ -3,7 +3,9 @@
 //! called and writes the word to memory, and of the word only whether it is defined is looked at.
 //! Then decoding a code and folding the word into a number, each behind a call; there the plain side
 //! folds in each arm, which of the ways that were tried to write it is the fastest.
-mod plain;
+mod digest;
+#[path = "../words.rs"]
+mod words;
 
 use std::hint::black_box;
 use std::time::Instant;
@@ -33,18 +35,18 @@ fn old_defined(codes: &[u16]) -> usize {
 }
 
 #[inline(never)]
-fn plain_decode(code: u16) -> plain::Word {
-    plain::decode(code)
+fn plain_decode(code: u16) -> words::Word {
+    words::decode(code)
 }
 
 #[inline(never)]
 fn plain_defined(codes: &[u16]) -> usize {
-    codes.iter().filter(|&&code| !matches!(plain_decode(code), plain::Word::Undefined)).count()
+    codes.iter().filter(|&&code| !matches!(plain_decode(code), words::Word::Undefined)).count()
 }
 
 #[inline(never)]
 fn plain_digest(code: u16) -> u64 {
-    plain::digest(plain::decode(code))
+    digest::digest(words::decode(code))
 }
 
 /// All codes, in order and in a random order that is always the same.

@@ -1,2 +1,2 @@
-pub mod Spans
+pub mod Beats
 pub mod internal

@@ -1,15 +1,25 @@
-// A chip taken into the parts that a beat works on, and put together again.
-use crate::Cores;
+// A chip taken into the parts that its beats work on, and put together again.
+use engine::Cores;
+use engine_core::EngineCore;
 use engine_core::core_of;
 use engine_core::engine_of;
+use engine_core::with_bit;
 use machine::Chip;
+use machine::Engine;
 use machine::Output;
 ghost use mathlib.Core.List.{map};
 ghost use mathlib.Core.Path.{_≡_};
 ghost use Prim.Native.Nat.{_<_};
 ghost use Rattle.word.specs.Profile.{LP5523};
 ghost use Rattle.machine.specs.Parts.{engineAt};
-ghost use Rattle.beats.specs.internal.Parts.{outputOf, levelOf, fixedOf, lent, lentOf, chipOf};
+ghost use Rattle.machine.specs.Triggers.{pulsed};
+ghost use Rattle.machine.specs.Tick.{withPulse};
+ghost use Rattle.engine_core.specs.Core.{engineOf};
+ghost use Rattle.engine.specs.Parts.{outputOf, chipOf};
+ghost use Rattle.beats.specs.internal.Parts.{levelOf, fixedOf, levelsOf, countsOf};
+
+// The bit of the external trigger pin.
+const PIN: u16 = 32;
 
 pub(super) fn levels_of(outputs: [Output; 10]) -> [u8; 10]
     ensures { λ r. ⌜ r ≡ map levelOf outputs ⌝ }
@@ -36,17 +46,23 @@ fn outputs_of(levels: [u8; 10]) -> [Output; 10]
     outputs
 }
 
-pub(super) fn cores_of(chip: Chip) -> Cores
-    ensures { λ r. ⌜ chipOf (fixedOf chip) r (lentOf chip) ≡ chip ⌝ }
+// A pulse at the pin, if given, becomes pending.
+fn pulsed(e: Engine, pulse: bool) -> EngineCore
+    ensures { λ r. ⌜ engineOf r (e .loops) ≡ pulsed pulse 0 e ⌝ }
+{
+    with_bit(core_of(e), PIN, pulse)
+}
+
+// The cores of a chip, with a pulse at the pin, if given.
+pub(super) fn cores_of(chip: Chip, pulse: bool) -> Cores
+    ensures { λ r. ⌜ chipOf (fixedOf chip) r (levelsOf chip) (countsOf chip) ≡ withPulse pulse chip ⌝ }
 {
     let one = chip.engines[0];
     let two = chip.engines[1];
     let three = chip.engines[2];
     Cores {
         c: chip.c,
-        one: core_of(one),
-        two: core_of(two),
-        three: core_of(three),
+        engines: [pulsed(one, pulse), pulsed(two, pulse), pulsed(three, pulse)],
     }
 }
 
@@ -60,31 +76,20 @@ pub(super) fn counts_of(chip: Chip, i: usize) -> [u8; 96]
 }
 
 // The chip with what its beats changed.
-pub(super) fn chip_of(
-    chip: Chip,
-    k: Cores,
-    levels: [u8; 10],
-    counts1: [u8; 96],
-    counts2: [u8; 96],
-    counts3: [u8; 96],
-) -> Chip
-    ensures { λ r. ⌜ r ≡ chipOf (fixedOf chip) k (lent levels counts1 counts2 counts3) ⌝ }
+pub(super) fn chip_of(mut chip: Chip, k: Cores, levels: [u8; 10], counts: [[u8; 96]; 3]) -> Chip
+    ensures { λ r. ⌜ r ≡ chipOf (fixedOf chip) k levels counts ⌝ }
 {
-    let memory = chip.memory;
-    let one = k.one;
-    let two = k.two;
-    let three = k.three;
-    Chip {
-        enabled: chip.enabled,
-        c: k.c,
-        d: chip.d,
-        page: chip.page,
-        memory,
-        outputs: outputs_of(levels),
-        engines: [
-            engine_of(one, counts1),
-            engine_of(two, counts2),
-            engine_of(three, counts3),
-        ],
-    }
+    let one = k.engines[0];
+    let two = k.engines[1];
+    let three = k.engines[2];
+    let outputs = outputs_of(levels);
+    let engines = [
+        engine_of(one, counts[0]),
+        engine_of(two, counts[1]),
+        engine_of(three, counts[2]),
+    ];
+    chip.c = k.c;
+    chip.outputs = outputs;
+    chip.engines = engines;
+    chip
 }

@@ -1,45 +1,26 @@
-// Whether a beat changes nothing, and whether a run stops before it.
-use crate::Cores;
-use engine_core::EngineCore;
-use engine_core::acts;
+// Whether a beat changes nothing.
 use engine_core::any;
 use engine_core::is_load;
-ghost use mathlib.Core.List.{List};
+use machine::Chip;
+use machine::Engine;
 ghost use mathlib.Core.Path.{_≡_};
-ghost use Prim.Native.Nat.{ℕ};
 ghost use Rattle.machine.specs.Tick.{loads, stopped};
-ghost use Rattle.machine.specs.Run.{quiet};
-ghost use Rattle.engine_core.specs.Core.{engineOf};
-ghost use Rattle.beats.specs.internal.Parts.{Fixed, Lent, chipOf};
 
-fn loads(k: EngineCore) -> bool
-    ensures { λ r. ⌜ ((counts : List ℕ) → r ≡ loads (engineOf k counts)) ⌝ }
+fn loads(e: Engine) -> bool
+    ensures { λ r. ⌜ r ≡ loads e ⌝ }
 {
-    let status = k.status;
-    let mode = status.mode;
+    let mode = e.mode;
     is_load(mode)
 }
 
-pub(super) fn stopped(enabled: bool, k: Cores) -> bool
-    ensures { λ r. ⌜ ((f : Fixed) (l : Lent) → f .enabled ≡ enabled → r ≡ stopped (chipOf f k l)) ⌝ }
+pub(super) fn stopped(chip: Chip) -> bool
+    ensures { λ r. ⌜ r ≡ stopped chip ⌝ }
 {
-    let one = k.one;
-    let two = k.two;
-    let three = k.three;
-    if !enabled {
+    if !chip.enabled {
         return true;
     }
+    let one = chip.engines[0];
+    let two = chip.engines[1];
+    let three = chip.engines[2];
     any(loads(one), loads(two), loads(three))
-}
-
-pub(super) fn quiet(enabled: bool, k: Cores) -> bool
-    ensures { λ r. ⌜ ((f : Fixed) (l : Lent) → f .enabled ≡ enabled → r ≡ quiet (chipOf f k l)) ⌝ }
-{
-    let one = k.one;
-    let two = k.two;
-    let three = k.three;
-    if stopped(enabled, k) {
-        return true;
-    }
-    !any(acts(one), acts(two), acts(three))
 }

@@ -24,5 +24,12 @@ pub fn run(chip: Chip, beats: u32) -> RunResult
         };
     }
     let s = run_beats(chip, false, beats);
-    s.ran
+    let after = s.chip;
+    let words = s.words;
+    RunResult {
+        outcome: Outcome::Success,
+        chip: after,
+        beats: s.beats,
+        words,
+    }
 }

@@ -11,11 +11,10 @@ pub fn tick(chip: Chip, pulse: bool) -> TickResult
     ensures { λ r. ⌜ r ≡ tick LP5523 pulse chip ⌝ }
 {
     let s = run_beats(chip, pulse, 1);
-    let r = s.ran;
-    let after = r.chip;
+    let after = s.chip;
     TickResult {
         chip: after,
         pin: s.pin,
-        ended: [r.words[0] == 1, r.words[1] == 1, r.words[2] == 1],
+        ended: [s.words[0] == 1, s.words[1] == 1, s.words[2] == 1],
     }
 }

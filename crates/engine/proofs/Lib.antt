@@ -1,2 +1,10 @@
-pub mod Decoded
 pub mod Acts
+pub mod Decoded
+pub mod Digits
+pub mod Loops
+pub mod Engines
+pub mod ByLevels
+pub mod LastingOf
+pub mod TurnOf
+pub mod IdleOf
+pub mod SpanOf

@@ -1,2 +1,3 @@
-pub mod Act
+pub mod Parts
+pub mod Spans
 pub mod internal

@@ -1,1 +1,6 @@
+pub mod Act
 pub mod Operands
+pub mod Fetches
+pub mod Levels
+pub mod Lasting
+pub mod Idle

@@ -11,7 +11,7 @@ ghost use Prim.Native.Nat.{_<_};
 ghost use Rattle.machine.specs.Branches.{branches};
 ghost use Rattle.machine.specs.Variables.{variable};
 ghost use Rattle.engine_core.specs.Core.{engineOf};
-ghost use Rattle.engine.specs.Act.{actOf};
+ghost use Rattle.engine.specs.internal.Act.{actOf};
 
 pub(super) fn branches(
     k: EngineCore,

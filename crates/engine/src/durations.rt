@@ -18,7 +18,7 @@ ghost use Rattle.machine.specs.declared.Progress.the-variants.{Ramping};
 ghost use Rattle.machine.specs.WordEnd.{stepPc, ends, lasts};
 ghost use Rattle.machine.specs.Durations.{beatsOf, clampTime, waits, ramps, rampsFrom};
 ghost use Rattle.engine_core.specs.Core.{engineOf};
-ghost use Rattle.engine.specs.Act.{actOf};
+ghost use Rattle.engine.specs.internal.Act.{actOf};
 
 pub(super) fn beats_of(prescale: u16, time: u16) -> u16
     requires { ⌜ time ≤ 31 ⌝ }

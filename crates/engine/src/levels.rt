@@ -18,7 +18,7 @@ ghost use Rattle.machine.specs.WordEnd.{stepPc, ends};
 ghost use Rattle.machine.specs.Durations.{beatsOf, clampTime, waits, rampsFrom};
 ghost use Rattle.machine.specs.Variables.{variable};
 ghost use Rattle.engine_core.specs.Core.{engineOf};
-ghost use Rattle.engine.specs.Act.{actOf};
+ghost use Rattle.engine.specs.internal.Act.{actOf};
 
 pub(super) fn puts(k: EngineCore, c: u8, value: u8) -> CoreResult
     ensures { λ r. ⌜ ((counts : List ℕ) → actOf r counts ≡ ends c (engineOf k counts) (Put value) 0 (stepPc (k .pc) 1)) ⌝ }

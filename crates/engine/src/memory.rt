@@ -1,9 +1,19 @@
 // The program memory, read past its end too.
 ghost use mathlib.Core.Path.{_≡_};
-ghost use lib.ListN.{getD};
+ghost use lib.Dec.{ltb};
+ghost use lib.ListN.{length, getD};
 
-// The word at an address; past the memory it is 0. A slice, unlike an array that is lent, tells its
-// length.
+// Words of program memory.
+pub(super) const WORDS: usize = 96;
+
+// Whether an address lies in the memory. A slice, unlike an array that is lent, tells its length.
+pub(super) fn inside(memory: &[u16], at: usize) -> bool
+    ensures { λ r. ⌜ r ≡ ltb at (length (now (memory .entry))) ⌝ }
+{
+    at < memory.len()
+}
+
+// The word at an address; past the memory it is 0.
 pub(super) fn word_at(memory: &[u16], at: usize) -> u16
     ensures { λ r. ⌜ r ≡ getD (now (memory .entry)) at 0 ⌝ }
 {

@@ -21,7 +21,7 @@ ghost use Rattle.machine.specs.Parts.{zeroCounts, withExec, withInterrupt, with
 ghost use Rattle.machine.specs.WordEnd.{finish, ends, goesOn};
 ghost use Rattle.machine.specs.Words.{stops, faults};
 ghost use Rattle.engine_core.specs.Core.{engineOf};
-ghost use Rattle.engine.specs.Act.{actOf};
+ghost use Rattle.engine.specs.internal.Act.{actOf};
 
 // rst
 pub(super) fn restarts(k: EngineCore, counts: &mut [u8; 96], c: u8) -> CoreResult

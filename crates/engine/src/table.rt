@@ -20,7 +20,7 @@ ghost use Rattle.machine.specs.WordEnd.{goesOn};
 ghost use Rattle.machine.specs.Outputs.{maskOf, maskOfOutput};
 ghost use Rattle.machine.specs.TablePointers.{nextIndex, previousIndex, pointed, points};
 ghost use Rattle.engine_core.specs.Core.{engineOf};
-ghost use Rattle.engine.specs.Act.{actOf};
+ghost use Rattle.engine.specs.internal.Act.{actOf};
 
 // Words of program memory.
 const WORDS: u16 = 96;

@@ -1,7 +1,8 @@
 // An engine's turn: a beat of its word, if it acts.
 use super::durations::ramps;
 use super::durations::waits;
-use super::memory::word_at;
+use super::memory::WORDS;
+use super::memory::inside;
 use super::stops::restarts;
 use super::triggers::triggers;
 use super::words::begins;
@@ -11,35 +12,23 @@ use engine_core::acts;
 use machine::Effect;
 use machine::Progress;
 use word::Step;
+use word::Word;
 ghost use mathlib.Core.Bool.{cond};
 ghost use mathlib.Core.List.{List};
 ghost use mathlib.Core.Path.{_≡_};
 ghost use Prim.Native.Nat.{ℕ};
 ghost use Rattle.word.specs.Profile.{LP5523};
+ghost use Rattle.word.specs.Decode.{wordAt};
 ghost use Rattle.machine.specs.Parts.{withPc};
 ghost use Rattle.machine.specs.Turn.{acts, addressOf, returned, starts, beatOf};
 ghost use Rattle.engine_core.specs.Core.{engineOf};
-ghost use Rattle.engine.specs.Act.{actOf, rests};
-
-// Words of program memory.
-const WORDS: usize = 96;
+ghost use Rattle.engine.specs.internal.Act.{actOf, rests};
+ghost use Rattle.engine.specs.internal.Fetches.{fetchAt};
 
 fn address_of(k: EngineCore) -> usize
     ensures { λ r. ⌜ r ≡ addressOf (k .start) (k .pc) ⌝ }
 {
     k.start.0 as usize + k.pc.0 as usize
-}
-
-// The first beat of the word at PC; past the memory the word is 0, which is rst.
-fn starts(k: EngineCore, c: u8, d: u8, memory: &[u16; 96], counts: &mut [u8; 96]) -> CoreResult
-    ensures { λ r. ⌜ actOf r (now (counts .exit)) ≡ starts LP5523 c d (now (memory .entry)) (engineOf k (now (counts .entry))) ⌝ }
-{
-    let at = address_of(k);
-    let code = word_at(memory, at);
-    if at >= WORDS {
-        return restarts(k, counts, c);
-    }
-    begins(k, c, d, memory, counts, at, decoder::decode(code))
 }
 
 // PC as the engine fetches: past the memory's last word it becomes 0 first.
@@ -52,24 +41,46 @@ fn fetch_pc(k: EngineCore) -> Step
     k.pc
 }
 
-// The engine fetches its word. One call serves both values of PC: with a call for each, the compiler
-// would keep the core in memory.
-fn fetch(mut k: EngineCore, c: u8, d: u8, memory: &[u16; 96], counts: &mut [u8; 96]) -> CoreResult
+// The engine fetches its word, which stands at an address of the memory. If its start lies past the
+// memory, the word is 0, which is rst. One call serves both values of PC: with a call for each, the
+// compiler would keep the core in memory.
+fn fetch(
+    mut k: EngineCore,
+    c: u8,
+    d: u8,
+    word: Word,
+    at: usize,
+    memory: &[u16; 96],
+    counts: &mut [u8; 96],
+) -> CoreResult
+    requires { ⌜ (at ≡ fetchAt (k .start) (k .pc)) × (word ≡ wordAt LP5523 (now memory) at) ⌝ }
     ensures { λ r. ⌜ actOf r (now (counts .exit)) ≡ starts LP5523 c d (now (memory .entry)) (returned LP5523 (engineOf k (now (counts .entry)))) ⌝ }
 {
     let pc = fetch_pc(k);
     k.pc = pc;
-    starts(k, c, d, memory, counts)
+    if !inside(memory, k.start.0 as usize) {
+        return restarts(k, counts, c);
+    }
+    begins(k, c, d, memory, counts, at, word)
 }
 
 // A beat of an engine that acts, by its word in progress.
-fn beat(k: EngineCore, c: u8, d: u8, memory: &[u16; 96], counts: &mut [u8; 96]) -> CoreResult
+fn beat(
+    k: EngineCore,
+    c: u8,
+    d: u8,
+    word: Word,
+    at: usize,
+    memory: &[u16; 96],
+    counts: &mut [u8; 96],
+) -> CoreResult
+    requires { ⌜ (at ≡ fetchAt (k .start) (k .pc)) × (word ≡ wordAt LP5523 (now memory) at) ⌝ }
     ensures { λ r. ⌜ actOf r (now (counts .exit)) ≡ beatOf LP5523 c d (now (memory .entry)) (engineOf k (now (counts .entry))) (k .status .progress) ⌝ }
 {
     let status = k.status;
     let progress = status.progress;
     match progress {
-        Progress::BetweenWords => fetch(k, c, d, memory, counts),
+        Progress::BetweenWords => fetch(k, c, d, word, at, memory, counts),
         Progress::Waiting { left } => waits(k, c, left),
         Progress::Ramping {
             dir,
@@ -93,12 +104,21 @@ fn rests(k: EngineCore, c: u8) -> CoreResult
     }
 }
 
-// An engine's turn, with the branch counts, which it may change.
-pub fn turn(k: EngineCore, c: u8, d: u8, memory: &[u16; 96], counts: &mut [u8; 96]) -> CoreResult
+// An engine's turn, with the word that it fetches, if it does, and the branch counts, which it may change.
+pub(super) fn turn(
+    k: EngineCore,
+    c: u8,
+    d: u8,
+    word: Word,
+    at: usize,
+    memory: &[u16; 96],
+    counts: &mut [u8; 96],
+) -> CoreResult
+    requires { ⌜ (at ≡ fetchAt (k .start) (k .pc)) × (word ≡ wordAt LP5523 (now memory) at) ⌝ }
     ensures { λ r. ⌜ actOf r (now (counts .exit)) ≡ cond (acts (engineOf k (now (counts .entry)))) (beatOf LP5523 c d (now (memory .entry)) (engineOf k (now (counts .entry))) (k .status .progress)) (rests c (engineOf k (now (counts .entry)))) ⌝ }
 {
     if !acts(k) {
         return rests(k, c);
     }
-    beat(k, c, d, memory, counts)
+    beat(k, c, d, word, at, memory, counts)
 }

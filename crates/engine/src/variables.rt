@@ -15,7 +15,7 @@ ghost use Rattle.machine.specs.WordEnd.{stepPc, ends};
 ghost use Rattle.machine.specs.Variables.{variable, subtracted, computed, combined, assigns, jumps, jumpTo};
 ghost use Rattle.machine.specs.declared.Effect.the-variants.{Keep};
 ghost use Rattle.engine_core.specs.Core.{engineOf};
-ghost use Rattle.engine.specs.Act.{actOf};
+ghost use Rattle.engine.specs.internal.Act.{actOf};
 
 pub(super) fn variable(k: EngineCore, c: u8, d: u8, v: u16) -> u8
     ensures { λ r. ⌜ ((counts : List ℕ) → r ≡ variable c d (engineOf k counts) v) ⌝ }

@@ -11,7 +11,7 @@ ghost use mathlib.Core.Path.{_≡_};
 ghost use Prim.Native.Nat.{ℕ};
 ghost use Rattle.machine.specs.WordEnd.{stepPc, pcAfter, execAfter, finish, ends, goesOn, lasts};
 ghost use Rattle.engine_core.specs.Core.{engineOf};
-ghost use Rattle.engine.specs.Act.{actOf};
+ghost use Rattle.engine.specs.internal.Act.{actOf};
 
 pub(super) fn step_pc(pc: Step, n: u16) -> Step
     ensures { λ r. ⌜ r ≡ stepPc pc n ⌝ }

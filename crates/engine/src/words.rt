@@ -28,7 +28,7 @@ ghost use Prim.Native.Nat.{ℕ, _<_};
 ghost use Rattle.word.specs.Profile.{LP5523};
 ghost use Rattle.machine.specs.Words.{begins};
 ghost use Rattle.engine_core.specs.Core.{engineOf};
-ghost use Rattle.engine.specs.Act.{actOf};
+ghost use Rattle.engine.specs.internal.Act.{actOf};
 ghost use Rattle.engine.specs.internal.Operands.{Small, From};
 
 // Branches, end, int, triggers and undefined words.

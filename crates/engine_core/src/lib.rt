@@ -2,6 +2,7 @@
 // little is copied. It is taken from an engine, put together again, and tells whether it acts; what its
 // mode and its word in progress tell serves the host registers too.
 mod acting;
+mod pending;
 mod split;
 mod state;
 
@@ -10,6 +11,7 @@ use machine::Exec;
 use machine::Mode;
 use machine::Pointers;
 use machine::Progress;
+pub use pending::with_bit;
 pub use split::core_of;
 pub use split::engine_of;
 pub use state::any;

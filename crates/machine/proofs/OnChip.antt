@@ -38,15 +38,15 @@ abbrev Unloaded : Engine → Type 0
 Unloaded e = isLoad (e .mode) ≡ false
 
 -- A chip that isn't stopped stays so.
-record Going (P : Profile) (m : Chip) : Type 0 where
-  enabled : m .enabled ≡ true
-  none : (j : ℕ) → Unloaded (engineAt P m j)
+pub record Going (P : Profile) (m : Chip) : Type 0 where
+  pub enabled : m .enabled ≡ true
+  pub none : (j : ℕ) → Unloaded (engineAt P m j)
 
 none-some : (f : Engine → Bool) (es : List Engine) (d : Engine) → ((i : ℕ) → f (getD es i d) ≡ false) → some f es ≡ false
 none-some f [] d h = refl
 none-some f (e ∷ es) d h = rw (h 0) (none-some f es d (λ i. h (suc i)))
 
-going : (P : Profile) (m : Chip) → stopped m ≡ false → Going P m
+pub going : (P : Profile) (m : Chip) → stopped m ≡ false → Going P m
 unfolding stopped
 going P m h =
     record {
@@ -54,7 +54,7 @@ going P m h =
       none = some-false loads (m .engines) (zeroEngine P) refl (or-false-right (not (m .enabled)) (some loads (m .engines)) h);
     }
 
-not-stopped : (P : Profile) (m : Chip) → Going P m → stopped m ≡ false
+pub not-stopped : (P : Profile) (m : Chip) → Going P m → stopped m ≡ false
 unfolding stopped
 not-stopped P m g = rw (g .enabled) (none-some loads (m .engines) (zeroEngine P) (g .none))
 
@@ -75,7 +75,7 @@ turn-going P i m g = go (acts (engineAt P m i))
         }
     go false = g
 
-pulse-going : (P : Profile) (b : Bool) (m : Chip) → Going P m → Going P (withPulse b m)
+pub pulse-going : (P : Profile) (b : Bool) (m : Chip) → Going P m → Going P (withPulse b m)
 unfolding pulsed
 pulse-going P b m g =
     record { enabled = g .enabled; none = λ j. each-keeps Unloaded (pulsed b) (λ k e h. by-cond Unloaded b (λ z. h) (λ z. h)) 0 j (m .engines) (zeroEngine P) (g .none j) }
@@ -87,7 +87,7 @@ turns-going P b m (suc n) g = turn-going P n (chipAtTurn P b m n) (turns-going P
 beat-chip : (P : Profile) (b : Bool) (m : Chip) → Going P m → tick P b m .chip ≡ chipAtTurn P b m (enginesOf P)
 beat-chip P b m g = beats-recorded P b (begun m) (not-stopped P m g) .chip
 
-beat-going : (P : Profile) (b : Bool) (m : Chip) → Going P m → Going P (tick P b m .chip)
+pub beat-going : (P : Profile) (b : Bool) (m : Chip) → Going P m → Going P (tick P b m .chip)
 beat-going P b m g = subst (Going P) (sym (beat-chip P b m g)) (turns-going P b m (enginesOf P) g)
 
 -- Between its turns nothing of an engine changes but its pending triggers.

@@ -4,8 +4,9 @@ use mathlib.Core.Path.{_≡_, refl}
 use native.Mathlib.Omega.{arith}
 use borrow.Author.Needs.{needs}
 use lib.ListN.{getD, length}
-use Rattle.beats.specs.internal.Parts.{levelOf, outputOf}
-use Rattle.beats.proofs.Loops.{each-to, one-place-more, filled}
+use Rattle.engine.specs.Parts.{outputOf}
+use Rattle.beats.specs.internal.Parts.{levelOf}
+use Rattle.engine.proofs.Loops.{each-to, one-place-more, filled}
 use Rattle.engine_core.proofs.Three.{unmapped}
 use Rattle.beats.proofs.split.levels_of.Statement.{statement}
 use Rattle.beats.proofs.split.levels_of.Tie as tie

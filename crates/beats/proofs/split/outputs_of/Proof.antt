@@ -4,8 +4,8 @@ use mathlib.Core.Path.{_≡_, refl}
 use native.Mathlib.Omega.{arith}
 use borrow.Author.Needs.{needs}
 use lib.ListN.{getD, length}
-use Rattle.beats.specs.internal.Parts.{outputOf}
-use Rattle.beats.proofs.Loops.{each-to, one-place-more, filled}
+use Rattle.engine.specs.Parts.{outputOf}
+use Rattle.engine.proofs.Loops.{each-to, one-place-more, filled}
 use Rattle.engine_core.proofs.Three.{unmapped}
 use Rattle.beats.proofs.split.outputs_of.Statement.{statement}
 use Rattle.beats.proofs.split.outputs_of.Tie as tie

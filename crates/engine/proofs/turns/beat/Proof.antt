@@ -12,7 +12,7 @@ beat-spec =
     tie.close
     (tie.spec
     (search needs)
-    (search needs)
+    (λ c κs. c .before .before .before .before .pre)
     (search needs)
     (search needs)
     (search needs)

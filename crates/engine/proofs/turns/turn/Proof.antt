@@ -12,5 +12,5 @@ turn-spec =
     (search needs)
     (search needs)
     (λ c. let c2 = c .before in rw (failed (c2 .before .acts .ensures []) (c2 .if1 .taken)) (c .rests .ensures _))
-    (search needs)
+    (λ c κs. c .before .before .before .pre)
     (λ c. let c2 = c .before .before in rw (passed (c2 .before .acts .ensures []) (c2 .if1 .left)) (c .beat .ensures)))
