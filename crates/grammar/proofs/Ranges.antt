@@ -164,7 +164,7 @@ module _ (k : ℕ) (v : List ℕ) where
 -- ---- where a yes or no lets no pair follow
 
 -- no other kind stops a line
-goes-on : (k : ℕ) (v : Value) → k < kindCount → (k ≡ decisionKind → ⊥) → stopsAt (kindAt k) v ≡ false
+pub goes-on : (k : ℕ) (v : Value) → k < kindCount → (k ≡ decisionKind → ⊥) → stopsAt (kindAt k) v ≡ false
 unfolding stopsAt
 goes-on k v h n = go (ltb k numberKinds) refl
   where
@@ -174,8 +174,8 @@ goes-on k v h n = go (ltb k numberKinds) refl
         ap (λ (x : Kind). stopsAt x v) (kind-keywords k (ltb-false k numberKinds q) h)
         ∙ ap (λ (t : Bool). stopsAt (cond t (keyword (keywordTable (k - numberKinds))) decision) v) (lt-ltb k decisionKind (omega arith))
 
-decision-is : kindAt decisionKind ≡ decision
-decision-is = kind-is decisionKind (omega arith)
+pub decision-stops : (k : ℕ) (v : Value) → k ≡ decisionKind → stopsAt (kindAt k) v ≡ stopsAt decision v
+decision-stops k v e = ap (λ (x : Kind). stopsAt x v) (ap kindAt e ∙ kind-is decisionKind (omega arith))
 
 -- what is no number stops it
 pub stops-other : (v : Value) → OneOf (1 ∷ 2 ∷ []) (tagOf values.the-type v) → stopsAt decision v ≡ true
@@ -187,7 +187,7 @@ stops-by : (k : ℕ) (v : Value) → k < pairCount → stopsAt (pairAt k .kind) 
 stops-by k v h = ap (λ (p : Pair). stopsAt (p .kind) v) (pair-is k h)
 
 pub stops-decision : (k : ℕ) (v : Value) → k < pairCount → getD pairKind k 0 ≡ decisionKind → stopsAt (pairAt k .kind) v ≡ stopsAt decision v
-stops-decision k v h e = stops-by k v h ∙ ap (λ (x : Kind). stopsAt x v) (ap kindAt e ∙ decision-is)
+stops-decision k v h e = stops-by k v h ∙ decision-stops _ v e
 
 -- a pair of another kind lets the next follow
 pub stops-not : (k : ℕ) (v : Value) → k < pairCount → (getD pairKind k 0 ≡ decisionKind → ⊥) → stopsAt (pairAt k .kind) v ≡ false

@@ -11,18 +11,20 @@ use lib.ListN.{length, getD, take, drop, length-drop, drop-of-length-le}
 use lib.Seq.{drop-cons, getD-take, getD-drop, length-take-le}
 use types.Run.{OneOf}
 use denote.Enum.Declared.{tagOf}
-use Rattle.text.specs.Bytes.{ascii, space, split, partAt, same, valueOf, isPair}
+use Rattle.text.specs.Bytes.{ascii, space, split, partAt, same, lacks, valueOf, isKeyword, isPair}
 use Rattle.text.specs.Number.{readNumber}
+use Rattle.text.proofs.Values.{same-true}
 use Rattle.text.proofs.Splits.{part-within, split-at-some, split-at-none}
 use Rattle.word.specs.Field.{upto}
 use Rattle.word.specs.Profile.{LP5523, _to_}
 use Rattle.grammar.specs.declared.Value.{Value}
 use Rattle.grammar.specs.declared.Value.the-variants.{Number, Malformed, Outside}
 use Rattle.grammar.specs.Form.{Kind, number, keyword, decision, Pair, Reading, values, refused, placeOf, readKeyword, held, readValue, readPair, before, allPairs, atEnd, decided, followed, readForm}
-use Rattle.grammar.specs.Grammar.{planForm, number16, named, readOp}
+use Rattle.grammar.specs.Grammar.{opNames, planForm, number16, named, readOp}
 use Rattle.grammar.specs.Values.{valuesOf, lineReadOf}
-use Rattle.grammar.specs.internal.Tables.{opCount, nameCount, pairCount, names, pairs, pairAt, formOf, stopsAt, stoppedBy, partsFrom, beforeRead}
+use Rattle.grammar.specs.internal.Tables.{opCount, nameCount, pairCount, keys, names, pairs, pairAt, formOf, stopsAt, stoppedBy, partsFrom, beforeRead}
 use Rattle.grammar.proofs.Value as variants
+use Rattle.grammar.proofs.Every.{every, every-below}
 use Rattle.grammar.proofs.Places.{keyword-read}
 use Rattle.grammar.proofs.Ranges.{other-value}
 use Rattle.grammar.proofs.Tables.{names-length, ops-first, pairs-length, op-form, plan-form}
@@ -202,6 +204,15 @@ module _ (first count : ℕ) (fit : first + count ≤ nameCount) where
     place-end h =
         let l : length (keywordsFrom first count) ≤ i = omega (arith, keywords-count) in
         ap (λ (l : List (List ℕ)). placeOf l i v) (drop-of-length-le (keywordsFrom first count) l)
+
+-- each name is a keyword
+names-keywords : every isKeyword names ≡ true
+unfolding names opNames keys isKeyword lacks
+names-keywords = refl
+
+pub name-keyword : (v : List ℕ) (k : ℕ) → k < nameCount → same v (getD names k []) ≡ true → isKeyword v ≡ true
+name-keyword v k h e =
+    ap isKeyword (same-true v (getD names k []) e) ∙ every-below isKeyword names [] k names-keywords (omega (arith, names-length))
 
 -- ---- the line of an operation
 

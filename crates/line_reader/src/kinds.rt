@@ -16,6 +16,7 @@ ghost use Rattle.text.specs.Number.{readNumber};
 ghost use Rattle.word.specs.Field.{inside, upto};
 ghost use Rattle.grammar.specs.Form.{held, readValue};
 ghost use Rattle.grammar.specs.internal.Tables.{numberKinds, kindCount, kindAt, rangesAt};
+ghost use Rattle.line_reader.specs.internal.Steps.{Lent};
 
 fn in_ranges(n: u16, kind: usize) -> bool
     requires { ⌜ kind < numberKinds ⌝ }
@@ -67,13 +68,13 @@ fn number_of(v: &[u8], kind: usize) -> Value
     Value::Outside
 }
 
-pub(super) fn read_value(v: &[u8], kind: usize) -> Value
-    requires { ⌜ kind < kindCount ⌝ }
+pub(super) fn read_value(bytes: &[u8], places: &[u16], v: &[u8], kind: usize) -> Value
+    requires { ⌜ Lent (now bytes) (now places) × (kind < kindCount) ⌝ }
     ensures { λ r. ⌜ r ≡ readValue (kindAt kind) (now (v .entry)) ⌝ }
 {
     if kind < NUMBERS {
         return number_of(v, kind);
     }
     let k = kind - NUMBERS;
-    read_keyword(v, KEYWORD_FIRST[k] as usize, KEYWORD_COUNT[k] as usize)
+    read_keyword(bytes, places, v, KEYWORD_FIRST[k] as usize, KEYWORD_COUNT[k] as usize)
 }

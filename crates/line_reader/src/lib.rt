@@ -1,4 +1,5 @@
 // A line of a sheet, read by the grammar's tables. Every text gets an answer.
+mod gathering;
 mod keywords;
 mod kinds;
 mod names;

@@ -9,11 +9,11 @@ use Rattle.line_reader.proofs.kinds.read_value.Tie as tie
 
 returns : tie.Need-returns
 returns c =
-    let a = c .before .before .before .args in
+    let a = c .before .before .before .before .before .args in
     c .number-of .ensures ∙ sym (number-value (a .kind) (a .v .now) (c .before .if1 .taken))
 
-at : (c : tie.Else1) → c .before .before .args .kind - numberKinds < 4
-at c = listed (c .before .before .pre) (c .if1 .left)
+at : (c : tie.Else1) → c .before .before .before .before .args .kind - numberKinds < 4
+at c = listed (c .before .before .before .before .pre .1) (c .if1 .left)
 
 cast-read-keyword : tie.Need-cast-read-keyword
 unfolding keywordFirst
@@ -25,13 +25,13 @@ cast-read-keyword-2 c = count-fits _ (at c)
 
 read-keyword-requires : tie.Need-read-keyword-requires
 unfolding keywordFirst keywordCount
-read-keyword-requires c κs = keywords-within _ (at c)
+read-keyword-requires c κs = (c .before .before .before .before .pre .0, keywords-within _ (at c))
 
 returns-2 : tie.Need-returns-2
 unfolding keywordFirst keywordCount
 returns-2 c =
-    let s = c .before .before .before in
-    c .read-keyword .ensures ∙ sym (keyword-value (s .args .kind) (s .args .v .now) (c .before .if1 .left) (s .pre))
+    let s = c .before .before .before .before .before in
+    c .read-keyword .ensures ∙ sym (keyword-value (s .args .kind) (s .args .v .now) (c .before .if1 .left) (s .pre .1))
 
 pub read-value-spec : {M : Type 1} → statement M
 read-value-spec =
