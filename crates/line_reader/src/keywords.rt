@@ -9,7 +9,13 @@ ghost use Rattle.grammar.specs.internal.Tables.{nameCount, names};
 ghost use Rattle.line_reader.specs.internal.Steps.{Lent};
 
 // The place of v among `count` names from `first` on. A value that is one of them is a keyword.
-pub(super) fn read_keyword(bytes: &[u8], places: &[u16], v: &[u8], first: usize, count: usize) -> Value
+pub(super) fn read_keyword(
+    bytes: &[u8],
+    places: &[u16],
+    v: &[u8],
+    first: usize,
+    count: usize,
+) -> Value
     requires { ⌜ Lent (now bytes) (now places) × (first + count ≤ nameCount) ⌝ }
     ensures { λ r. ⌜ r ≡ readKeyword (take count (drop first names)) (now (v .entry)) ⌝ }
 {

@@ -76,5 +76,11 @@ pub(super) fn read_value(bytes: &[u8], places: &[u16], v: &[u8], kind: usize) ->
         return number_of(v, kind);
     }
     let k = kind - NUMBERS;
-    read_keyword(bytes, places, v, KEYWORD_FIRST[k] as usize, KEYWORD_COUNT[k] as usize)
+    read_keyword(
+        bytes,
+        places,
+        v,
+        KEYWORD_FIRST[k] as usize,
+        KEYWORD_COUNT[k] as usize,
+    )
 }

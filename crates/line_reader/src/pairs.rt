@@ -28,7 +28,12 @@ fn read_pair(bytes: &[u8], places: &[u16], part: &[u8], key: usize, kind: usize)
     requires { ⌜ Lent (now bytes) (now places) × (key < nameCount) × (kind < kindCount) ⌝ }
     ensures { λ r. ⌜ r ≡ readValue (kindAt kind) (valueOf (getD names key []) (now (part .entry))) ⌝ }
 {
-    read_value(bytes, places, text_bytes::value_of(part, name(bytes, places, key)), kind)
+    read_value(
+        bytes,
+        places,
+        text_bytes::value_of(part, name(bytes, places, key)),
+        kind,
+    )
 }
 
 // Whether the pairs after this one are left out: after a yes or no that isn't yes.
@@ -47,7 +52,15 @@ fn stops(kind: usize, value: Value) -> bool
 
 // A line with this first value, its parts from `from` on read by the pairs from `start` up to `end`. The
 // tables of the pairs are made once, before the loop.
-fn read_pairs(bytes: &[u8], places: &[u16], line: &[u8], from: usize, first: Value, start: usize, end: usize) -> LineRead
+fn read_pairs(
+    bytes: &[u8],
+    places: &[u16],
+    line: &[u8],
+    from: usize,
+    first: Value,
+    start: usize,
+    end: usize,
+) -> LineRead
     requires { ⌜ Lent (now bytes) (now places) × (end ≤ pairCount) × (end ≤ start + 6) ⌝ }
     ensures { λ r. ⌜ r ≡ lineReadOf (before first (readForm (take (end - start) (drop start pairs)) (partsFrom from (now (line .entry))))) ⌝ }
 {
@@ -77,10 +90,25 @@ fn read_pairs(bytes: &[u8], places: &[u16], line: &[u8], from: usize, first: Val
 }
 
 // The same by the pairs of a whole form.
-pub(super) fn read_form(bytes: &[u8], places: &[u16], line: &[u8], from: usize, first: Value, form: usize) -> LineRead
+pub(super) fn read_form(
+    bytes: &[u8],
+    places: &[u16],
+    line: &[u8],
+    from: usize,
+    first: Value,
+    form: usize,
+) -> LineRead
     requires { ⌜ Lent (now bytes) (now places) × (form < formCount) ⌝ }
     ensures { λ r. ⌜ r ≡ lineReadOf (before first (readForm (formOf form) (partsFrom from (now (line .entry))))) ⌝ }
 {
     let forms = FORM_AT;
-    read_pairs(bytes, places, line, from, first, forms[form] as usize, forms[form + 1] as usize)
+    read_pairs(
+        bytes,
+        places,
+        line,
+        from,
+        first,
+        forms[form] as usize,
+        forms[form + 1] as usize,
+    )
 }

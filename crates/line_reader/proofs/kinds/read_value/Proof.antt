@@ -15,18 +15,6 @@ returns c =
 at : (c : tie.Else1) → c .before .before .before .before .args .kind - numberKinds < 4
 at c = listed (c .before .before .before .before .pre .1) (c .if1 .left)
 
-cast-read-keyword : tie.Need-cast-read-keyword
-unfolding keywordFirst
-cast-read-keyword c = first-fits _ (at c)
-
-cast-read-keyword-2 : tie.Need-cast-read-keyword-2
-unfolding keywordCount
-cast-read-keyword-2 c = count-fits _ (at c)
-
-read-keyword-requires : tie.Need-read-keyword-requires
-unfolding keywordFirst keywordCount
-read-keyword-requires c κs = (c .before .before .before .before .pre .0, keywords-within _ (at c))
-
 returns-2 : tie.Need-returns-2
 unfolding keywordFirst keywordCount
 returns-2 c =
@@ -34,14 +22,15 @@ returns-2 c =
     c .read-keyword .ensures ∙ sym (keyword-value (s .args .kind) (s .args .v .now) (c .before .if1 .left) (s .pre .1))
 
 pub read-value-spec : {M : Type 1} → statement M
+unfolding keywordFirst keywordCount
 read-value-spec =
     tie.close
     (tie.spec
     (λ c κs. c .if1 .taken)
     returns
     at
-    cast-read-keyword
+    (λ c. first-fits _ (at c))
     at
-    cast-read-keyword-2
-    read-keyword-requires
+    (λ c. count-fits _ (at c))
+    (λ c κs. (c .before .before .before .before .pre .0, keywords-within _ (at c)))
     returns-2)

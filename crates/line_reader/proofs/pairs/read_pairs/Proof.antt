@@ -100,13 +100,14 @@ loop-again c =
     let a = s .args in
     let at = l .loop .pair - a .start + 1 in
     let z : l .loop .pair + 1 - a .start + 1 ≡ at + 1 = omega arith in
-    let rest = readForm (pairsTo (a .end) (l .loop .pair + 1)) (partsFrom (l .loop .at + length (p .part-at .result .now) + 1) (a .line .now)) in
-    (omega arith,
-    l .loop .inv .1 ∙ ap (with-rest at (l .loop .values) (l .loop .refusal))
-    (form-goes (a .end) (l .loop .pair) (l .loop .at) (a .line .now) (omega arith) (s .pre .1) (omega arith) (p .part-at .result .now) (p .part-at .ensures)
-    (v .read-pair .result) (value-is v) (stop-is b ∙ c .before .if2 .left))
-    ∙ one-more at (l .loop .values) (l .loop .refusal) (v .read-pair .result) rest
-    ∙ sym (λ i. with-rest (z i) (set (l .loop .values) at (n .number-in2 .ensures i)) (c .refusal-with2 .ensures i) rest))
+    let rest = readForm (pairsTo (a .end) (l .loop .pair + 1)) (partsFrom (l .loop .at + length (p .part-at .result .now) + 1) (a .line .now)) in (
+      omega arith,
+      l .loop .inv .1 ∙ ap (with-rest at (l .loop .values) (l .loop .refusal))
+          (form-goes (a .end) (l .loop .pair) (l .loop .at) (a .line .now) (omega arith) (s .pre .1) (omega arith) (p .part-at .result .now) (p .part-at .ensures)
+          (v .read-pair .result) (value-is v) (stop-is b ∙ c .before .if2 .left))
+          ∙ one-more at (l .loop .values) (l .loop .refusal) (v .read-pair .result) rest
+          ∙ sym (λ i. with-rest (z i) (set (l .loop .values) at (n .number-in2 .ensures i)) (c .refusal-with2 .ensures i) rest),
+    )
 
 pub read-pairs-spec : {M : Type 1} → statement M
 unfolding pairKey pairKind

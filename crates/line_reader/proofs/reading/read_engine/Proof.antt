@@ -17,11 +17,6 @@ use Rattle.line_reader.proofs.reading.read_engine.Tie as tie
 value-is : (c : tie.After-read-number) → c .read-number .result ≡ held (upto 65535) (readNumber 65535 (valueOf (ascii "engine") (c .before .before .before .before .args .part .now)))
 value-is c = c .read-number .ensures ∙ ap (λ (s : List ℕ). held (upto 65535) (readNumber 65535 s)) (c .before .value-of .ensures)
 
-returns : tie.Need-returns
-returns c =
-    let r = c .before in
-    narrow-other (_ to _ ∷ []) _ (value-is r) (c .match .keys2)
-
 returns-2 : tie.Need-returns-2
 returns-2 c =
     let v = c .before .before in
@@ -45,6 +40,6 @@ read-engine-spec =
     (search needs)
     (search needs)
     (search needs)
-    returns
+    (λ c. narrow-other (_ to _ ∷ []) _ (value-is (c .before)) (c .match .keys2))
     returns-2
     returns-3)
