@@ -9,8 +9,6 @@ use borrow.Author.Tests.{leb-true, leb-false, le-leb, lt-leb, not-true, not-fals
 use lib.Dec.{eqb, leb}
 use lib.ListN.{length, getD, take, drop, length-drop, drop-of-length-le}
 use lib.Seq.{drop-cons, getD-take, getD-drop, length-take-le}
-use types.Run.{OneOf}
-use denote.Enum.Declared.{tagOf}
 use Rattle.text.specs.Bytes.{ascii, space, split, partAt, same, lacks, valueOf, isKeyword, isPair}
 use Rattle.text.specs.Number.{readNumber}
 use Rattle.text.proofs.Values.{same-true}
@@ -23,10 +21,8 @@ use Rattle.grammar.specs.Form.{Kind, number, keyword, decision, Pair, Re
 use Rattle.grammar.specs.Grammar.{opNames, planForm, number16, named, readOp}
 use Rattle.grammar.specs.Values.{valuesOf, lineReadOf}
 use Rattle.grammar.specs.internal.Tables.{opCount, nameCount, pairCount, keys, names, pairs, pairAt, formOf, stopsAt, stoppedBy, partsFrom, beforeRead}
-use Rattle.grammar.proofs.Value as variants
 use Rattle.grammar.proofs.Every.{every, every-below}
 use Rattle.grammar.proofs.Places.{keyword-read}
-use Rattle.grammar.proofs.Ranges.{other-value}
 use Rattle.grammar.proofs.Tables.{names-length, ops-first, pairs-length, op-form, plan-form}
 
 -- ---- the parts of a line
@@ -226,11 +222,6 @@ op-line line part v is e =
 
 pub op-small : (v : List ℕ) (o : ℕ) → readKeyword (keywordsFrom 0 opCount) v ≡ Number o → o < opCount
 op-small v o e = omega (arith, keyword-read (keywordsFrom 0 opCount) o v e .1, keywords-count 0 opCount (omega arith))
-
--- where it is no operation's, no form goes on
-pub op-stops : (ps : List (List ℕ)) (v : Value) → OneOf (1 ∷ 2 ∷ []) (tagOf variants.the-type v) → named LP5523 v ps ≡ stoppedBy 21 v ps
-unfolding named stoppedBy
-op-stops ps = other-value (λ (v : Value). named LP5523 v ps ≡ stoppedBy 21 v ps) refl refl
 
 pub op-goes : (o : ℕ) (ps : List (List ℕ)) → o < opCount → named LP5523 (Number o) ps ≡ before (Number o) (readForm (formOf o) ps)
 unfolding named

@@ -18,7 +18,7 @@ use Rattle.grammar.specs.Grammar.{named, readOp, readParts}
 use Rattle.grammar.specs.internal.Tables.{opCount, formCount, formOf, partsFrom, stoppedBy}
 use Rattle.grammar.proofs.LineKind as kinds
 use Rattle.grammar.proofs.Tables.{nameBytes, nameAt, name-starts, name-ends, name-is}
-use Rattle.grammar.proofs.Walk.{keywordsFrom, plan-line, op-line, op-small, op-stops, op-goes}
+use Rattle.grammar.proofs.Walk.{keywordsFrom, plan-line, op-line, op-small, op-goes}
 use Rattle.line_reader.specs.internal.Steps.{Lent, numberOr, readPlanOrOp, firstOf, formAfter}
 
 -- the tables that are lent

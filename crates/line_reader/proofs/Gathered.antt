@@ -6,7 +6,7 @@ use mathlib.Core.Path.{_≡_, refl, sym, ap, _∙_}
 use native.Mathlib.Omega.{arith}
 use borrow.Author.Tests.{eqb-false, ne-eqb}
 use lib.Dec.{eqb}
-use lib.ListN.{length, set, length-set}
+use lib.ListN.{length, set}
 use Rattle.grammar.specs.declared.LineRead.{LineRead}
 use Rattle.grammar.specs.declared.LineRead.the-variants.{Read, Refused}
 use Rattle.grammar.specs.declared.Value.{Value}

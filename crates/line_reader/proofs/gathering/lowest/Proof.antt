@@ -1,5 +1,5 @@
 -- `line_reader::gathering::lowest` meets its contract.
-use mathlib.Core.Path.{sym, _∙_}
+use mathlib.Core.Path.{_∙_}
 use borrow.Author.Needs.{needs}
 use borrow.Author.Tests.{eq-eqb, ne-eqb}
 use Rattle.line_reader.specs.internal.Steps.{lowest}

@@ -1,5 +1,4 @@
 -- `line_reader::gathering::number_in` meets its contract.
-use Prim.Native.Nat.{ℕ}
 use mathlib.Core.Path.{_≡_, refl, sym, ap}
 use borrow.Author.Needs.{needs}
 use Rattle.grammar.specs.declared.Value.{Value}
