@@ -1,6 +1,6 @@
 //! A plain decoder of the LP5523's instruction words, from the table of document 01, "Words", for all
 //! that compares or times words. Its functions are always inlined: with several callers the compiler
-//! would call them. With `--cfg called` it is called, to see what that takes.
+//! would call them. With `--cfg uninlined` that is left to the compiler, to see what it takes.
 
 /// What a jump asks of its two variables.
 #[derive(Clone, Copy)]
@@ -46,17 +46,17 @@ pub enum Word {
 }
 
 /// `width` bits of a code from bit `low` on; at most 8.
-#[inline(always)]
+#[cfg_attr(not(uninlined), inline(always))]
 fn field(code: u16, low: u32, width: u32) -> u8 {
     (code >> low & ((1 << width) - 1)) as u8
 }
 
-#[inline(always)]
+#[cfg_attr(not(uninlined), inline(always))]
 fn bit(code: u16, at: u32) -> bool {
     code >> at & 1 == 1
 }
 
-#[inline(always)]
+#[cfg_attr(not(uninlined), inline(always))]
 fn ramp(code: u16) -> Word {
     let (slow, time) = (bit(code, 14), field(code, 9, 5));
     let (up, count) = (!bit(code, 8), field(code, 0, 8));
@@ -67,7 +67,7 @@ fn ramp(code: u16) -> Word {
     }
 }
 
-#[inline(always)]
+#[cfg_attr(not(uninlined), inline(always))]
 fn jump(code: u16) -> Word {
     let test = match field(code, 9, 2) {
         0 => Test::NotEqual,
@@ -78,7 +78,7 @@ fn jump(code: u16) -> Word {
     Word::Jump { test, skip: field(code, 4, 5), left: field(code, 2, 2), right: field(code, 0, 2) }
 }
 
-#[inline(always)]
+#[cfg_attr(not(uninlined), inline(always))]
 fn arithmetic(code: u16) -> Word {
     let (to, value) = (field(code, 10, 2), field(code, 0, 8));
     let (left, right) = (field(code, 2, 2), field(code, 0, 2));
@@ -92,7 +92,7 @@ fn arithmetic(code: u16) -> Word {
     }
 }
 
-#[inline(always)]
+#[cfg_attr(not(uninlined), inline(always))]
 fn mux(code: u16) -> Word {
     let address = field(code, 0, 7);
     match code {
@@ -111,7 +111,7 @@ fn mux(code: u16) -> Word {
     }
 }
 
-#[inline(always)]
+#[cfg_attr(not(uninlined), inline(always))]
 fn trigger(code: u16) -> Word {
     // wait and send are 0..7 or 32..39, so two bits inside each are zero, and bit 0 is
     if code & 0x0C31 != 0 {
@@ -120,7 +120,7 @@ fn trigger(code: u16) -> Word {
     Word::Trigger { wait: field(code, 7, 6), send: field(code, 1, 6) }
 }
 
-#[inline(always)]
+#[cfg_attr(not(uninlined), inline(always))]
 fn by_variable(code: u16) -> Word {
     let (left, right) = (field(code, 2, 2), field(code, 0, 2));
     match code {
@@ -132,7 +132,7 @@ fn by_variable(code: u16) -> Word {
     }
 }
 
-#[inline(always)]
+#[cfg_attr(not(uninlined), inline(always))]
 fn stop(code: u16) -> Word {
     match code {
         0xC400 => Word::Int,
@@ -141,8 +141,7 @@ fn stop(code: u16) -> Word {
     }
 }
 
-#[cfg_attr(called, inline(never))]
-#[cfg_attr(not(called), inline(always))]
+#[cfg_attr(not(uninlined), inline(always))]
 pub fn decode(code: u16) -> Word {
     match code >> 12 {
         0 if code == 0 => Word::Rst,

@@ -130,10 +130,11 @@ fn main() -> Result<()> {
     }
     let scripts = arguments.first().and_then(|count| count.parse().ok()).unwrap_or(20_000);
     let mut peer = Peer::start("target/bin/lights")?;
-    if compare(&mut peer, scripts)? != 0 {
+    if scripts > 0 && compare(&mut peer, scripts)? != 0 {
         std::process::exit(1);
     }
-    println!("processor: {}; plain decoder {}", peer::processor(), if cfg!(called) { "called" } else { "inlined" });
+    let inlining = if cfg!(uninlined) { "left to the compiler" } else { "always inlined" };
+    println!("processor: {}; plain decoder {inlining}", peer::processor());
     for name in timing::NAMES {
         time(&mut peer, name, &timing::script(name, 300_000))?;
     }
