@@ -1,6 +1,8 @@
 // The sheets of light programs. The rules are document 01's, "The sheet" and its numbers 9, 11 to 13 and
 // 20 to 24; specs/ has them. The functions stand in `assembler`, which reads a sheet, and
 // `disassembler`, which writes one.
+#![tactic(auto)]
+
 use plan::{Plan, Verdict};
 
 // What the assembler answers; lines are counted from 1. `reading_of` in specs/Answers.antt gives each

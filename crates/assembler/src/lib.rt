@@ -1,5 +1,7 @@
 // The assembler: a sheet, read into a lent image. It is proved equal to asm/specs/Reading.antt for every
 // text.
+#![tactic(auto)]
+
 mod answers;
 mod assembler;
 mod plans;

@@ -1,5 +1,7 @@
 // The program checker: document 01's conditions 11 to 17 on a plan and its image, and the same of a plan
 // alone. The definitions are crate plan's.
+#![tactic(auto)]
+
 mod acceptance;
 mod image;
 mod ranges;

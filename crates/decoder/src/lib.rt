@@ -1,4 +1,6 @@
 // From 16 bits to the word that they are. The words and the table are crate word's.
+#![tactic(auto)]
+
 mod decoder;
 mod undefined;
 

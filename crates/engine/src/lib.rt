@@ -1,6 +1,8 @@
 // The engines' beats, one after another: each engine's turn, triggers, and the outputs' levels. The rules
 // are document 01's, section "A beat"; the definitions are crate machine's. The crate `beats` makes the
 // beats of a whole chip of them.
+#![tactic(auto)]
+
 mod branches;
 mod durations;
 mod fetches;

@@ -1,6 +1,8 @@
 // An engine without its branch counts: a beat works on it, and only the counts are lent, so that
 // little is copied. It is taken from an engine, put together again, and tells whether it acts; what its
 // mode and its word in progress tell serves the host registers too.
+#![tactic(auto)]
+
 mod acting;
 mod pending;
 mod split;

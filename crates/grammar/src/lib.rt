@@ -1,5 +1,7 @@
 // The lines of a sheet. The grammar is document 01's: specs/Grammar.antt. The functions stand in
 // `line_reader` and `line_writer`, which go by the tables.
+#![tactic(auto)]
+
 mod entries;
 
 pub use entries::{

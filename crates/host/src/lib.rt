@@ -1,5 +1,7 @@
 // The host's side of the chip: a new chip, bursts to the registers, the interrupt read. The rules are
 // document 01's, section "Host registers" and its numbers 1 to 7; the definitions are crate machine's.
+#![tactic(auto)]
+
 mod bursts;
 mod interrupts;
 mod listed;

@@ -1,4 +1,6 @@
 // A line of a sheet, read by the grammar's tables. Every text gets an answer.
+#![tactic(auto)]
+
 mod gathering;
 mod keywords;
 mod kinds;

@@ -1,4 +1,6 @@
 // A line of a sheet, written by the grammar's tables. Every place and all values get an answer.
+#![tactic(auto)]
+
 mod kinds;
 mod names;
 mod sequence;

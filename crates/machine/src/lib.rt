@@ -1,6 +1,8 @@
 // What the chip is: its state, and what its calls answer. The rules are definitions in specs/, in
 // document 01's order, except that definitions precede their use; the theorems about them are
 // stated in specs/Theorems.antt.
+#![tactic(auto)]
+
 use word::{Address, Direction, Step};
 
 // An engine's mode, as register 01h has it: 00, 01, 10, 11.

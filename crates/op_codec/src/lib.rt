@@ -1,5 +1,7 @@
 // Op lines, read as codes and written from codes; the values of a word's line. The definitions are
 // crate op_lines's.
+#![tactic(auto)]
+
 mod op_line;
 mod reading;
 mod values;

@@ -1,4 +1,5 @@
 // Op lines and instruction words: which line stands for which code. The functions stand in `op_codec`.
+#![tactic(auto)]
 
 // What reading an op line answers. `answer_of` in specs/Lines.antt gives each case's number.
 #[derive(Drop)]

@@ -1,5 +1,7 @@
 // Plans of light programs, and what a checker answers about them. The rules are document 01's, section
 // "The plan and the checker" and its numbers 9 and 11 to 17; specs/ has them.
+#![tactic(auto)]
+
 use word::Address;
 
 // What one engine has: nothing; the code addresses first to last; and perhaps the rows of a mapping

@@ -1,4 +1,6 @@
 // The numbers of document 01, and the values that are reported with them, of every answer that is an enum.
+#![tactic(auto)]
+
 mod calls;
 mod op_line;
 mod reading;

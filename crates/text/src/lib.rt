@@ -1,5 +1,6 @@
 // What texts of bytes are: parts between separators, key=value pairs, decimal numbers, and writing into
 // lent bytes. The functions stand in `text_bytes`.
+#![tactic(auto)]
 
 // The bytes with a meaning of their own.
 pub const LINE_FEED: u8 = b'\n';

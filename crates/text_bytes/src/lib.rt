@@ -1,5 +1,7 @@
 // Bytes read and written as document 01's texts: parts between separators, key=value pairs, decimal
 // numbers. Every text, place and length gets an answer. The definitions are crate text's.
+#![tactic(auto)]
+
 mod decimals;
 mod pairs;
 mod parts;

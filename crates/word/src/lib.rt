@@ -1,5 +1,6 @@
 // The instruction words of the LP5523: what a word may say, and the answers about it.
 // The rules are document 01's, section "Words"; specs/Table.antt is its table.
+#![tactic(auto)]
 
 // A step counts from the engine's start. The target of a branch is a step.
 #[derive(Drop)]

@@ -1,6 +1,8 @@
 // What the benchmark in bench/word measures, of the decoder and of the confirming one: decoding
 // alone, where of each word only whether it is defined is looked at, and decoding with the word
 // folded into one number, so that no part of the work can be left out.
+#![tactic(auto)]
+
 ghost use Rattle.std.specs.Prelude.{cond, ◌≡◌};
 ghost use Rattle.word.specs.Profile.{LP5523};
 ghost use Rattle.word.specs.Classes.{is_undefined};
