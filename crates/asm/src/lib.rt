@@ -7,7 +7,7 @@ use plan::{Plan, Verdict};
 
 // What the assembler answers; lines are counted from 1. `reading_of` in specs/Answers.antt gives each
 // case's number and line.
-#[derive(Drop)]
+#[derive(Clone, Copy)]
 pub enum Assembled {
     Program(Plan),
     // the lent image doesn't have as many words as the chip
@@ -23,14 +23,14 @@ pub enum Assembled {
 }
 
 // A refusal of the assembler: its number and line, zeros for success.
-#[derive(Drop)]
+#[derive(Clone, Copy)]
 pub struct LineReport {
     pub number: u16,
     pub line: u16,
 }
 
 // What the disassembler answers. `writing_of` in specs/Answers.antt gives each case's number.
-#[derive(Drop)]
+#[derive(Clone, Copy)]
 pub enum Disassembled {
     Length(usize),
     Refused(Verdict),

@@ -13,14 +13,14 @@ use plan::EnginePlan;
 pub use plans::engine_plan;
 
 // An engine's plan and the place after its line, or the sheet's refusal.
-#[derive(Drop)]
+#[derive(Clone, Copy)]
 enum PlanLine {
     Plan { plan: EnginePlan, next: usize },
     Refused(Assembled),
 }
 
 // A word, or the sheet's refusal.
-#[derive(Drop)]
+#[derive(Clone, Copy)]
 enum WordRead {
     Word(u16),
     Refused(Assembled),

@@ -27,7 +27,7 @@ pub use spans::take_beats;
 
 // What a beat of a word gives, but for the branch counts. The order is for speed: the small fields lie
 // side by side.
-#[derive(Drop)]
+#[derive(Clone, Copy)]
 pub struct CoreResult {
     pub own: EngineCore,
     pub send: u16,
@@ -37,7 +37,7 @@ pub struct CoreResult {
 }
 
 // Variable C and the three engines, without their branch counts.
-#[derive(Drop)]
+#[derive(Clone, Copy)]
 pub struct Cores {
     pub c: u8,
     pub engines: [EngineCore; 3],
@@ -45,7 +45,7 @@ pub struct Cores {
 
 // What beats one after another give: whether the last sent to the pin, how many there were, and the
 // words that each engine finished.
-#[derive(Drop)]
+#[derive(Clone, Copy)]
 pub struct CoresRan {
     pub cores: Cores,
     pub pin: bool,
@@ -54,7 +54,7 @@ pub struct CoresRan {
 }
 
 // The same of a whole chip.
-#[derive(Drop)]
+#[derive(Clone, Copy)]
 pub struct Span {
     pub chip: Chip,
     pub pin: bool,

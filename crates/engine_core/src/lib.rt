@@ -17,7 +17,7 @@ use word::{Address, Step};
 
 // What the host and the words set together: the fields that are enums. A field that is a struct can be
 // set by itself.
-#[derive(Drop)]
+#[derive(Clone, Copy)]
 pub struct Status {
     pub mode: Mode,
     pub exec: Exec,
@@ -27,7 +27,7 @@ pub struct Status {
 // An engine without its branch counts. The order is for speed: the compiler moves neighbours in one
 // piece, and a processor stalls where it reads in one piece what it has just written in several
 // (store forwarding). So what a beat looks at by itself (pending, mask, status) parts the other fields.
-#[derive(Drop)]
+#[derive(Clone, Copy)]
 pub struct EngineCore {
     pub start: Address,
     pub table: Pointers,

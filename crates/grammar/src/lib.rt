@@ -10,7 +10,7 @@ pub use entries::{
 };
 
 // The kinds of a sheet's lines.
-#[derive(Drop)]
+#[derive(Clone, Copy)]
 pub enum LineKind {
     Op,
     // the plan of the engine with this number; engines are counted from 1
@@ -20,7 +20,7 @@ pub enum LineKind {
 }
 
 // A value: a number, or the place of a keyword among those allowed; or why there is none.
-#[derive(Drop)]
+#[derive(Clone, Copy)]
 pub enum Value {
     Number(u16),
     Malformed,
@@ -29,7 +29,7 @@ pub enum Value {
 
 // The values of a line's pairs in their order, 0 past the last. The first value of an op line is the
 // operation's place in document 01's table; a keyword stands for its place among those allowed.
-#[derive(Drop)]
+#[derive(Clone, Copy)]
 pub struct Values {
     pub a: u16,
     pub b: u16,
@@ -41,7 +41,7 @@ pub struct Values {
 }
 
 // What reading a line answers: its values, or the number of the refusal.
-#[derive(Drop)]
+#[derive(Clone, Copy)]
 pub enum LineRead {
     Read(Values),
     Refused(u16),

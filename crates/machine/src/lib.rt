@@ -6,7 +6,7 @@
 use word::{Address, Direction, Step};
 
 // An engine's mode, as register 01h has it: 00, 01, 10, 11.
-#[derive(Drop)]
+#[derive(Clone, Copy)]
 pub enum Mode {
     Disabled,
     Load,
@@ -15,7 +15,7 @@ pub enum Mode {
 }
 
 // An engine's run setting, as register 00h has it: 00, 01, 10, 11.
-#[derive(Drop)]
+#[derive(Clone, Copy)]
 pub enum Exec {
     Hold,
     SingleStep,
@@ -24,7 +24,7 @@ pub enum Exec {
 }
 
 // The word in progress, if the engine is mid_word_lem.
-#[derive(Drop)]
+#[derive(Clone, Copy)]
 pub enum Progress {
     BetweenWords,
     Waiting {
@@ -44,14 +44,14 @@ pub enum Progress {
 }
 
 // The pointers into the engine's mapping table.
-#[derive(Drop)]
+#[derive(Clone, Copy)]
 pub struct Pointers {
     pub top: Address,
     pub bottom: Address,
     pub index: Address,
 }
 
-#[derive(Drop)]
+#[derive(Clone, Copy)]
 pub struct Engine {
     pub mode: Mode,
     pub exec: Exec,
@@ -71,12 +71,12 @@ pub struct Engine {
     pub loops: [u8; 96],
 }
 
-#[derive(Drop)]
+#[derive(Clone, Copy)]
 pub struct Output {
     pub level: u8,
 }
 
-#[derive(Drop)]
+#[derive(Clone, Copy)]
 pub struct Chip {
     pub enabled: bool,
     pub c: u8,
@@ -89,7 +89,7 @@ pub struct Chip {
 }
 
 // What a word does to the outputs that its engine holds.
-#[derive(Drop)]
+#[derive(Clone, Copy)]
 pub enum Effect {
     Keep,
     Put { value: u8 },
@@ -98,7 +98,7 @@ pub enum Effect {
 
 // What one beat of a word gives: its engine afterwards, variable C, the effect on the held outputs,
 // the triggers sent, and whether the word ended.
-#[derive(Drop)]
+#[derive(Clone, Copy)]
 pub struct BeatResult {
     pub own: Engine,
     pub c: u8,
@@ -108,7 +108,7 @@ pub struct BeatResult {
 }
 
 // What an engine's turn gives: the chip, the triggers sent, and whether a word ended.
-#[derive(Drop)]
+#[derive(Clone, Copy)]
 pub struct TurnResult {
     pub chip: Chip,
     pub send: u16,
@@ -116,7 +116,7 @@ pub struct TurnResult {
 }
 
 // What a beat gives: the chip, the pin output event, and which engines ended a word.
-#[derive(Drop)]
+#[derive(Clone, Copy)]
 pub struct TickResult {
     pub chip: Chip,
     pub pin: bool,
@@ -124,7 +124,7 @@ pub struct TickResult {
 }
 
 // What the host's calls answer. `number_of` in specs/Outcome.antt gives each case's number.
-#[derive(Drop)]
+#[derive(Clone, Copy)]
 pub enum Outcome {
     Success,
     EmptyBurst,
@@ -138,7 +138,7 @@ pub enum Outcome {
 }
 
 // What a run gives: the chip, the beats done and the words finished by each engine.
-#[derive(Drop)]
+#[derive(Clone, Copy)]
 pub struct RunResult {
     pub outcome: Outcome,
     pub chip: Chip,
@@ -147,21 +147,21 @@ pub struct RunResult {
 }
 
 // What a burst gives.
-#[derive(Drop)]
+#[derive(Clone, Copy)]
 pub struct WriteResult {
     pub outcome: Outcome,
     pub chip: Chip,
 }
 
 // What an interrupt read gives.
-#[derive(Drop)]
+#[derive(Clone, Copy)]
 pub struct Interrupts {
     pub chip: Chip,
     pub flags: [bool; 3],
 }
 
 // A host register; an engine, an output or a byte of the page is counted from 0.
-#[derive(Drop)]
+#[derive(Clone, Copy)]
 pub enum Register {
     Control,
     Modes,

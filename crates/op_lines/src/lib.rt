@@ -2,7 +2,7 @@
 #![tactic(auto)]
 
 // What reading an op line answers. `answer_of` in specs/Lines.antt gives each case's number.
-#[derive(Drop)]
+#[derive(Clone, Copy)]
 pub enum WordLine {
     Code(u16),
     Malformed,
@@ -11,7 +11,7 @@ pub enum WordLine {
 }
 
 // What writing the line of a code answers.
-#[derive(Drop)]
+#[derive(Clone, Copy)]
 pub enum WordWritten {
     Length(usize),
     UndefinedWord,

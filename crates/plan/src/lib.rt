@@ -6,7 +6,7 @@ use word::Address;
 
 // What one engine has: nothing; the code addresses first to last; and perhaps the rows of a mapping
 // table, top to bottom. Equal plans are equal values.
-#[derive(Drop)]
+#[derive(Clone, Copy)]
 pub enum EnginePlan {
     Unused,
     CodeOnly {
@@ -21,7 +21,7 @@ pub enum EnginePlan {
     },
 }
 
-#[derive(Drop)]
+#[derive(Clone, Copy)]
 pub struct Plan {
     pub engine1: EnginePlan,
     pub engine2: EnginePlan,
@@ -30,7 +30,7 @@ pub struct Plan {
 
 // What the checker answers; engines are counted from 1. `report_of` in specs/Verdict.antt gives each
 // case's number in document 01.
-#[derive(Drop)]
+#[derive(Clone, Copy)]
 pub enum Verdict {
     Accept,
     // the image doesn't have as many words as the chip
@@ -52,7 +52,7 @@ pub enum Verdict {
 
 // Where a word's successors lie: all in the engine's own code, or the first that doesn't at this
 // address, a u32 so that no addition to an address overflows.
-#[derive(Drop)]
+#[derive(Clone, Copy)]
 pub enum Stray {
     Inside,
     To(u32),
@@ -60,7 +60,7 @@ pub enum Stray {
 
 // A verdict as document 01 reports it: its number, the engine and the address, zero for what it doesn't
 // give.
-#[derive(Drop)]
+#[derive(Clone, Copy)]
 pub struct Report {
     pub number: u16,
     pub engine: u16,

@@ -10,7 +10,7 @@ pub const SPACE: u8 = b' ';
 pub const EQUALS_SIGN: u8 = b'=';
 
 // What reading a decimal number answers.
-#[derive(Drop)]
+#[derive(Clone, Copy)]
 pub enum Decimal {
     Number(u32),
     // no number: a byte that is no digit, a leading zero, or no byte at all

@@ -13,7 +13,7 @@ const DIGIT_NINE: u8 = 57;
 const TOO_LARGE: u64 = 4_294_967_296;
 
 // Digits: their number where it is below TOO_LARGE, else TOO_LARGE; or a byte that is no digit.
-#[derive(Drop)]
+#[derive(Clone, Copy)]
 enum Digits {
     Upto(u64),
     Broken,

@@ -3,24 +3,24 @@
 #![tactic(auto)]
 
 // A step counts from the engine's start. The target of a branch is a step.
-#[derive(Drop)]
+#[derive(Clone, Copy)]
 pub struct Step(pub u16);
 
 // An address counts from word 0 of the program memory.
-#[derive(Drop)]
+#[derive(Clone, Copy)]
 pub struct Address(pub u16);
 
 // The words of the program memory.
 pub const WORDS: usize = 96;
 
-#[derive(Drop)]
+#[derive(Clone, Copy)]
 pub enum Direction {
     Up,
     Down,
 }
 
 // The operations that share a line of document 01's table, under their names in a sheet.
-#[derive(Drop)]
+#[derive(Clone, Copy)]
 pub enum JumpOp {
     Jne,
     Jl,
@@ -28,20 +28,20 @@ pub enum JumpOp {
     Je,
 }
 
-#[derive(Drop)]
+#[derive(Clone, Copy)]
 pub enum ArithOp {
     Ld,
     Add,
     Sub,
 }
 
-#[derive(Drop)]
+#[derive(Clone, Copy)]
 pub enum ArithVarOp {
     AddVar,
     SubVar,
 }
 
-#[derive(Drop)]
+#[derive(Clone, Copy)]
 pub enum MuxAtOp {
     MuxMapStart,
     MuxLdEnd,
@@ -50,7 +50,7 @@ pub enum MuxAtOp {
     MuxMapAddr,
 }
 
-#[derive(Drop)]
+#[derive(Clone, Copy)]
 pub enum MuxMoveOp {
     MuxMapNext,
     MuxLdNext,
@@ -61,7 +61,7 @@ pub enum MuxMoveOp {
 // An instruction word: a case for each line of document 01's table, its operands under the keys of
 // its sheet line. An operand is wide enough to lie outside its field, so that the encoder can refuse
 // it. Variables are numbers: A is 0, D is 3.
-#[derive(Drop)]
+#[derive(Clone, Copy)]
 pub enum Word {
     Rst,
     Ramp {
@@ -135,7 +135,7 @@ pub enum Word {
 }
 
 // What the encoder answers. `answer_of` in specs/Answer.antt gives each case's number in document 01.
-#[derive(Drop)]
+#[derive(Clone, Copy)]
 pub enum Coded {
     Code(u16),
     OutsideField,
@@ -143,7 +143,7 @@ pub enum Coded {
 }
 
 // Where a word lets the engine go on.
-#[derive(Drop)]
+#[derive(Clone, Copy)]
 pub enum Flow {
     // the next word
     Next,
@@ -175,7 +175,7 @@ pub enum Flow {
 }
 
 // What a word does to the pointers of the engine's mapping table.
-#[derive(Drop)]
+#[derive(Clone, Copy)]
 pub enum TableUse {
     Nothing,
     // sets top and index
