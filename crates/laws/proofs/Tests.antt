@@ -39,8 +39,8 @@ or_false true = refl
 or_false false = refl
 
 -- what a test `!f(..)` tells, by what f ensures
-pub failed : {r s : Bool} → r ≡ s → not r ≡ true → s ≡ false
-failed {r} e t = sym e ∙ not-true r t
+pub failed : {r s : Bool} → r ≡ s → r ≡ false → s ≡ false
+failed e t = sym e ∙ t
 
-pub passed : {r s : Bool} → r ≡ s → not r ≡ false → s ≡ true
-passed {r} e t = sym e ∙ not-false r t
+pub passed : {r s : Bool} → r ≡ s → r ≡ true → s ≡ true
+passed e t = sym e ∙ t
