@@ -7,12 +7,6 @@ use Rattle.word.proofs.Fields.{in_upto}
 use Rattle.decoder.proofs.Direct.{is, jump_is, ramp_var_none}
 use Rattle.decoder.proofs.decoder.from_8.Goals as goal
 
-pub from_84-requires : goal.from_84-requires
-from_84-requires c = omega arith
-
-pub returns-in-2 : goal.returns-in-2
-returns-in-2 c = c.from_84.ensures
-
 pub returns-in-3 : goal.returns-in-3
 returns-in-3 c = is LP5523 (BranchVar _ _) _ refl (in_upto 127 _ (omega arith), (in_upto 3 _ (omega arith), tt)) (omega arith)
 

@@ -30,5 +30,4 @@ pub returns-in-1-to-9 : goal.returns-in-1-to-9
 returns-in-1-to-9 c = is LP5523 (MuxSel _) _ refl (in_range_lem 1 9 _ (16 to 16 ∷ []) (omega arith) (omega arith), tt) (omega arith)
 
 pub returns-in_default : goal.returns-in_default
-returns-in_default c = let r = c.in-0.rest in
-    page_none _ (omega arith) (omega arith) (omega arith) r.0.0.0.0.1 r.0.0.0.1 r.0.0.1 r.0.1 r.1
+returns-in_default c = page_none _ (omega arith) (omega arith) (omega arith) (omega arith) (omega arith) (omega arith) (omega arith) (omega arith)

@@ -4,9 +4,6 @@ use native.Mathlib.Omega.{arith}
 use Rattle.decoder.proofs.Direct.{sum_is}
 use Rattle.decoder.proofs.decoder.sum_at.Goals as goal
 
-pub sum_var_at-requires : goal.sum_var_at-requires
-sum_var_at-requires c = omega arith
-
 pub returns-in-0 : goal.returns-in-0
 returns-in-0 c = c.arith_at.ensures ∙ sum_is _ _ (omega arith) (omega arith) (omega arith)
 
@@ -15,6 +12,3 @@ returns-in-1 c = c.arith_at-in-1.ensures ∙ sum_is _ _ (omega arith) (omega ari
 
 pub returns-in-2 : goal.returns-in-2
 returns-in-2 c = c.arith_at-in-2.ensures ∙ sum_is _ _ (omega arith) (omega arith) (omega arith)
-
-pub returns-in_default : goal.returns-in_default
-returns-in_default c = c.sum_var_at.ensures

@@ -11,4 +11,4 @@ pub returns-in-1 : goal.returns-in-1
 returns-in-1 c = c.arith_var_at-in-1.ensures ∙ sum_var_is _ _ (omega arith) (omega arith) (omega arith) (omega arith)
 
 pub returns-in_default : goal.returns-in_default
-returns-in_default c = sum_var_none _ (omega arith) (omega arith) (omega arith) c.in-0.rest.0.1 c.in-0.rest.1
+returns-in_default c = sum_var_none _ (omega arith) (omega arith) (omega arith) (omega arith) (omega arith)

@@ -1,6 +1,5 @@
 -- `encoder::encoder::mux_sel` meets its contract. Assumes nothing.
 use mathlib.Core.List.{[], ◌∷◌}
-use borrow.Author.Rules.{rules}
 use native.Mathlib.Omega.{arith}
 use Rattle.word.specs.Profile.{◌to◌}
 use Rattle.word.proofs.Fields.{in_none, in_range_lem, above_range, below_range, from_least}

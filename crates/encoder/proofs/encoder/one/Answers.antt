@@ -1,5 +1,4 @@
 -- `encoder::encoder::one` meets its contract. Assumes nothing.
-use borrow.Author.Rules.{rules}
 use Rattle.word.proofs.Fields.{in_upto, out_upto}
 use Rattle.encoder.proofs.encoder.one.Goals as goal
 

@@ -2,7 +2,6 @@
 use Prim.Native.Nat.{ℕ, ◌<◌}
 use mathlib.Core.List.{[], ◌∷◌}
 use mathlib.Core.Path.{◌≡◌}
-use borrow.Author.Rules.{rules}
 use Rattle.laws.proofs.Tests.{and_false}
 use Rattle.word.specs.declared.Direction.{Direction}
 use Rattle.word.specs.declared.Direction.TheVariants.{Up, Down}

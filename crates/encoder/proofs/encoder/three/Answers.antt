@@ -1,17 +1,6 @@
 -- `encoder::encoder::three` meets its contract: a product within its field is at most that of the field's greatest number. Assumes nothing.
-use native.Mathlib.Nat.{mul-le-mul_left}
-use native.Mathlib.Omega.{arith}
 use Rattle.word.proofs.Fields.{in_upto, out_upto}
 use Rattle.encoder.proofs.encoder.three.Goals as goal
-
-pub overflow_mul-s : goal.overflow_mul-s
-overflow_mul-s c = omega (arith, mul-le-mul_left c.args.s c.if-x-xmost.true)
-
-pub overflow_add-base : goal.overflow_add-base
-overflow_add-base c = omega (arith, mul-le-mul_left c.args.s c.if-x-xmost.true)
-
-pub two-requires : goal.two-requires
-two-requires c = omega (arith, mul-le-mul_left c.args.s c.if-x-xmost.true)
 
 pub returns-then-x-xmost : goal.returns-then-x-xmost
 returns-then-x-xmost c = simp (in_upto _ _ c.if-x-xmost.true) c.two.ensures

@@ -1,7 +1,6 @@
 -- `encoder::encoder::trigger` meets its contract: numbers that name triggers are at most 39. Assumes nothing.
 use mathlib.Core.Bool.{true}
 use mathlib.Core.Path.{◌≡◌, ◌∙◌, sym}
-use borrow.Author.Rules.{rules}
 use Rattle.word.specs.Profile.{LP5523}
 use Rattle.word.specs.Field.{triggers, ranges_of, inside}
 use Rattle.word.proofs.Fields.{in_upto, between}
@@ -14,10 +13,3 @@ returns-then-names_triggers-2 c =
     let p : inside (ranges_of LP5523 triggers) w ≡ true = sym c.names_triggers.ensures ∙ c.if-names_triggers.true in
     let q : inside (ranges_of LP5523 triggers) x ≡ true = sym c.names_triggers-then-names_triggers.ensures ∙ c.if-names_triggers-2.true in
     simp (p, q) (simp (in_upto 39 w (between _ w p).1, in_upto 39 x (between _ x q).1) at c.scaled.ensures)
-
-pub returns-else-names_triggers-2 : goal.returns-else-names_triggers-2
-returns-else-names_triggers-2 c =
-    simp (sym c.names_triggers.ensures ∙ c.if-names_triggers.true, sym c.names_triggers-then-names_triggers.ensures ∙ c.if-names_triggers-2.false)
-
-pub returns-else-names_triggers : goal.returns-else-names_triggers
-returns-else-names_triggers c = simp (sym c.names_triggers.ensures ∙ c.if-names_triggers.false)

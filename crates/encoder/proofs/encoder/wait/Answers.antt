@@ -1,5 +1,4 @@
 -- `encoder::encoder::wait` meets its contract. Assumes nothing.
-use borrow.Author.Rules.{rules}
 use Rattle.laws.proofs.Tests.{and_false}
 use Rattle.word.specs.Field.{upto, inside}
 use Rattle.word.proofs.Fields.{from_least, under_least}
