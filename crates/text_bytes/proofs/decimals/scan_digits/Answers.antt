@@ -1,20 +1,10 @@
--- `text_bytes::decimals::scan_digits` meets its contract. The invariant: the whole scans as what is left does after the number so far.
-use Prim.Native.Nat.{ℕ, ◌+◌, ◌*◌, ◌≤◌, ◌-◌, min}
-use mathlib.Core.Logic.{⊎_elim}
-use mathlib.Core.Path.{◌≡◌, refl, sym, ap, ◌∙◌}
-use native.Mathlib.Omega.{arith}
-use lib.ListN.{length, drop, get_or}
+-- Each turn is one turn of `scan`.
+use mathlib.Core.Path.{sym, ap, ◌∙◌}
+use Rattle.std.proofs.Common.{◌≡◌, ℕ, ◌+◌, ◌-◌, ◌*◌, min, drop, get_or, arith}
 use Rattle.text_bytes.specs.internal.Digits.{too_large, scan}
 use Rattle.text_bytes.proofs.Scan.{scan_low, scan_high, scan_digit, scan_end}
 use Rattle.text_bytes.proofs.decimals.scan_digits.Goals as goal
-
--- the number after a turn
-held : (c : tie.Joined3 invariant-loop decreases-loop) →
-    c.if-n-gt-TOO_LARGE.n ≡ min (c.loop-i.n * 10 + (get_or c.args.v.now c.loop-i.i 0 - 48)) too_large
-held c = ⊎_elim (λ w. omega arith) (λ w. omega arith) c.if-n-gt-TOO_LARGE.branch
-
-pub loop-i-init : goal.loop-i-init
-loop-i-init c = (omega arith, omega arith, refl)
+use Rattle.text_bytes.proofs.decimals.scan_digits.Goals.{then-n-gt-TOO_LARGE, else-n-gt-TOO_LARGE}
 
 pub returns-then-b-lt-DIGIT_ZERO : goal.returns-then-b-lt-DIGIT_ZERO
 returns-then-b-lt-DIGIT_ZERO c =
@@ -27,7 +17,8 @@ returns-then-b-gt-DIGIT_NINE c =
 pub loop-i-preserved : goal.loop-i-preserved
 loop-i-preserved c =
     let v = c.args.v.now in
-    let e = held c in (
+    let e : c.if-n-gt-TOO_LARGE.n ≡ min (c.loop-i.n * 10 + (get_or v c.loop-i.i 0 - 48)) too_large =
+    elim c.if-n-gt-TOO_LARGE.branch [ then-n-gt-TOO_LARGE w ↦ omega arith | else-n-gt-TOO_LARGE w ↦ omega arith ] in (
       omega arith,
       omega arith,
       c.loop-i.invariant.2

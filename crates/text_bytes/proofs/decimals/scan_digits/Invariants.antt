@@ -1,11 +1,8 @@
 -- `text_bytes::decimals::scan_digits` meets its contract. The invariant: the whole scans as what is left does after the number so far.
-use Prim.Native.Nat.{ℕ, ◌+◌, ◌*◌, ◌≤◌, ◌-◌, min}
-use mathlib.Core.Logic.{⊎_elim}
-use mathlib.Core.Path.{◌≡◌, refl, sym, ap, ◌∙◌}
-use native.Mathlib.Omega.{arith}
-use lib.ListN.{length, drop, get_or}
+use Prim.Native.Nat.{◌≤◌, ◌-◌}
+use mathlib.Core.Path.{◌≡◌}
+use lib.ListN.{length, drop}
 use Rattle.text_bytes.specs.internal.Digits.{too_large, scan}
-use Rattle.text_bytes.proofs.Scan.{scan_low, scan_high, scan_digit, scan_end}
 use Rattle.text_bytes.proofs.decimals.scan_digits.Given as goal
 
 abbrev pub invariant-loop-i : goal.invariant-loop-i

@@ -1,23 +1,15 @@
 -- `text_bytes::parts::place_of` meets its contract: the parts behind and the place among those to come make the place among all.
-use Prim.Native.Nat.{ℕ, ◌+◌, ◌-◌, ◌≤◌}
+use Prim.Native.Nat.{ℕ}
 use mathlib.Core.Bool.{true, false}
 use mathlib.Core.List.{List}
 use mathlib.Core.Path.{◌≡◌, sym, ap, ◌∙◌}
 use native.Mathlib.Omega.{arith}
-use borrow.Author.Rules.{rules}
-use lib.ListN.{length}
-use Rattle.text.specs.Bytes.{same, space, split, part_at, after_part, place_of}
+use Rattle.text.specs.Bytes.{same, space, part_at, after_part}
 use Rattle.text.proofs.Places.{place_from, from_start, from_past, from_found, from_next}
 use Rattle.text_bytes.proofs.parts.place_of.Goals as goal
 
 pub loop-at-init : goal.loop-at-init
 loop-at-init c = let a = c.args in (omega arith, omega arith, omega (arith, from_start a.part.now space a.table.now))
-
-pub part_at-requires : goal.part_at-requires
-part_at-requires c = search rules
-
-pub same-requires : goal.same-requires
-same-requires c = search rules
 
 pub returns-then-same : goal.returns-then-same
 returns-then-same c =
@@ -29,11 +21,8 @@ returns-then-same c =
     let f = from_found a.part.now space c.loop-at.at a.table.now (omega arith) e in
     omega (arith, i.2, f)
 
-pub after_part-at-requires : goal.after_part-at-requires
-after_part-at-requires c = search rules
-
 pub loop-at-smaller : goal.loop-at-smaller
-loop-at-smaller c = omega (arith, c.after_part-at.ensures.1.0 (omega arith))
+loop-at-smaller c = omega (arith, c.after_part-at.ensures.lower_bound.0 (omega arith))
 
 pub loop-at-preserved : goal.loop-at-preserved
 loop-at-preserved c =
@@ -44,9 +33,9 @@ loop-at-preserved c =
     in
     let f = from_next a.part.now space c.loop-at.at a.table.now (omega arith) e in
     let n : place_from a.part.now space c.after_part-at.result a.table.now ≡ place_from a.part.now space (after_part space c.loop-at.at a.table.now) a.table.now =
-    ap (λ (at : ℕ). place_from a.part.now space at a.table.now) c.after_part-at.ensures.0
+    ap (λ (at : ℕ). place_from a.part.now space at a.table.now) c.after_part-at.ensures.value
     in
-    let b = c.after_part-at.ensures.1 in
+    let b = c.after_part-at.ensures.lower_bound in
     let up = b.0 (omega arith) in
     (omega (arith, up, i.0), b.1, omega (arith, i.2, f, n))
 

@@ -1,13 +1,9 @@
 -- `text_bytes::parts::place_of` meets its contract: the parts behind and the place among those to come make the place among all.
-use Prim.Native.Nat.{ℕ, ◌+◌, ◌-◌, ◌≤◌}
-use mathlib.Core.Bool.{true, false}
-use mathlib.Core.List.{List}
-use mathlib.Core.Path.{◌≡◌, sym, ap, ◌∙◌}
-use native.Mathlib.Omega.{arith}
-use borrow.Author.Rules.{rules}
+use Prim.Native.Nat.{◌+◌, ◌-◌, ◌≤◌}
+use mathlib.Core.Path.{◌≡◌}
 use lib.ListN.{length}
-use Rattle.text.specs.Bytes.{same, space, split, part_at, after_part, place_of}
-use Rattle.text.proofs.Places.{place_from, from_start, from_past, from_found, from_next}
+use Rattle.text.specs.Bytes.{space, split, place_of}
+use Rattle.text.proofs.Places.{place_from}
 use Rattle.text_bytes.proofs.parts.place_of.Given as goal
 
 abbrev pub invariant-loop-at : goal.invariant-loop-at

@@ -1,10 +1,8 @@
 -- `text_bytes::pieces::index_of` meets its contract. The invariant: the place in the whole is i more than the place in what is left.
 use Prim.Native.Nat.{◌+◌, ◌≤◌, ◌-◌}
 use mathlib.Core.Path.{◌≡◌}
-use native.Mathlib.Omega.{arith}
 use lib.ListN.{length, drop}
 use Rattle.text.specs.Bytes.{index_of}
-use Rattle.text.proofs.Turns.{index_hit, index_miss, index_end}
 use Rattle.text_bytes.proofs.pieces.index_of.Given as goal
 
 abbrev pub invariant-loop-i : goal.invariant-loop-i

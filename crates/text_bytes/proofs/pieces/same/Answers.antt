@@ -1,9 +1,6 @@
 -- `text_bytes::pieces::same` meets its contract. The invariant: the texts are the same exactly where what is left of them is.
-use Prim.Native.Nat.{◌≤◌, ◌-◌}
-use mathlib.Core.Path.{◌≡◌, refl, sym, ◌∙◌}
+use mathlib.Core.Path.{refl, sym, ◌∙◌}
 use native.Mathlib.Omega.{arith}
-use lib.ListN.{length, drop}
-use Rattle.text.specs.Bytes.{same}
 use Rattle.text.proofs.Turns.{same_hit, same_miss, same_end, same_lengths}
 use Rattle.text_bytes.proofs.pieces.same.Goals as goal
 

@@ -1,11 +1,8 @@
 -- `text_bytes::values::value_of` meets its contract. The invariant: the value in the whole is the value in what is left of key and pair.
-use Prim.Native.Nat.{◌+◌, ◌≤◌, ◌-◌}
-use mathlib.Core.Path.{◌≡◌, refl, sym, ◌∙◌}
-use native.Mathlib.Omega.{arith}
+use Prim.Native.Nat.{◌≤◌, ◌-◌}
+use mathlib.Core.Path.{◌≡◌}
 use lib.ListN.{length, drop}
-use borrow.Author.Rules.{rules}
 use Rattle.text.specs.Bytes.{value_of}
-use Rattle.text.proofs.Turns.{rest_whole, value_short, value_miss, value_hit, value_none, value_other, value_after}
 use Rattle.text_bytes.proofs.values.value_of.Given as goal
 
 abbrev pub invariant-loop-i : goal.invariant-loop-i

@@ -1,13 +1,11 @@
 -- `text_bytes::writing::put_bytes` meets its contract. The invariant: the first i bytes are written.
-use Prim.Native.Nat.{◌+◌, ◌≤◌, ◌-◌}
+use Prim.Native.Nat.{◌+◌}
 use mathlib.Core.List.{◌∷◌, [], ◌++◌}
 use mathlib.Core.Path.{◌≡◌}
 use native.Mathlib.Omega.{arith}
 use native.Mathlib.Numerals.{add-one}
-use borrow.Author.Rules.{rules}
-use lib.ListN.{length, take, get_or}
+use lib.ListN.{take, get_or}
 use lib.Seq.{take-suc, take_all}
-use Rattle.text.specs.Put.{Put}
 use Rattle.text.proofs.Puts.{put_nil, put_append, put_is, put_length}
 use Rattle.text_bytes.proofs.writing.put_bytes.Goals as goal
 

@@ -1,0 +1,14 @@
+-- A number below ten is one digit; any other is the digits of its tenth, and one more.
+use mathlib.Core.Path.{sym}
+use Rattle.std.proofs.Common.{arith}
+use Rattle.text.proofs.Puts.{put_append, put_is}
+use Rattle.text.proofs.Numerals.{decimal_one, decimal_more}
+use Rattle.text_bytes.proofs.writing.+put_decimal.Goals as goal
+
+pub returns-then-n-lt10 : goal.returns-then-n-lt10
+returns-then-n-lt10 t c = put_is (sym (decimal_one c.args.n (omega arith))) c.put_byte.ensures
+
+pub returns : goal.returns
+returns t c =
+    put_is (sym (decimal_more c.args.n (omega arith) (omega arith)))
+    (put_append (omega arith) c.put_decimal-next.ensures c.put_byte-2.ensures)
