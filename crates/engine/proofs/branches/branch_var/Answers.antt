@@ -1,0 +1,6 @@
+-- `engine::branches::branch_var` meets its contract.
+use Rattle.std.proofs.Common.{rules}
+use Rattle.engine.proofs.branches.branch_var.Goals as goal
+
+pub returns : goal.returns
+returns c = rw (c.variable-n.ensures c.args.counts.now) at c.branches.ensures

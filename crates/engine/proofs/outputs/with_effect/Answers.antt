@@ -1,0 +1,11 @@
+-- `engine::outputs::with_effect` meets its contract.
+use Rattle.std.proofs.Common.{sym, rules}
+use Rattle.laws.proofs.Matches.{via}
+use Rattle.engine.specs.internal.Levels.{levels_after}
+use Rattle.engine.proofs.ByLevels.{levels_kept}
+use Rattle.engine.proofs.outputs.with_effect.Goals as goal
+
+pub returns-in-Keep : goal.returns-in-Keep
+returns-in-Keep c =
+    let a = c.args in
+    via (λ f. levels_after a.held f a.levels.now) (sym (levels_kept a.held a.levels.now)) c.in-Keep.is

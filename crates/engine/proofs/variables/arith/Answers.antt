@@ -1,0 +1,6 @@
+-- `engine::variables::arith` meets its contract.
+use Rattle.std.proofs.Common.{rules}
+use Rattle.engine.proofs.variables.arith.Goals as goal
+
+pub returns : goal.returns
+returns c counts = rw (c.computed.ensures, c.variable-x.ensures counts) at (c.assigns.ensures counts)
