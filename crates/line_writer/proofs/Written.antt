@@ -14,7 +14,7 @@ use Rattle.laws.proofs.Tests.{by_test}
 use Rattle.text.specs.Bytes.{ascii, space, equals_sign, joined, join}
 use Rattle.text.specs.Number.{decimal_of}
 use Rattle.text.specs.Put.{last_place, Put}
-use Rattle.text.proofs.Puts.{put_append, put_length, SoFar}
+use Rattle.text.proofs.Puts.{put_append, put_length, SoFar, so_far_more}
 use Rattle.word.specs.Profile.{LP5523}
 use Rattle.grammar.specs.declared.Value.TheVariants.{Number}
 use Rattle.grammar.specs.Form.{Kind, number, keyword, decision, answers, Pair, write_value, write_pair, continued, write_form}
@@ -130,3 +130,19 @@ so_far_is {a} {b} {whole} {r} {t} {at} {n} e s = subst (λ (x : List ℕ). SoFar
 -- a key, an equals sign and a value, one after another
 pub put_parts : {a b c d s t : List ℕ} {at m n r : ℕ} → length a ≤ last_place → Put a b s at m → Put b c (equals_sign ∷ []) m n → Put c d t n r → Put a d (s ++ (equals_sign ∷ t)) at r
 put_parts room p q o = put_append room p (put_append (omega (arith, put_length p)) q o)
+
+-- a turn of the loop that writes the pairs: after the pair j what continues it is left
+pub so_far_pair : {a b d e whole : List ℕ} {at next m k : ℕ} (end j i : ℕ) (ns : List ℕ) (n : ℕ) →
+    n ≡ get_or ns i 0 →
+    j < end →
+    end ≤ pair_count →
+    i < length ns →
+    SoFar a b whole (joined space (left_of end j i ns)) at next →
+    Put b d (space ∷ []) next m →
+    Put d e (write_pair (pair_at j) n) m k →
+    SoFar a e whole (joined space (continued (pair_at j).kind n (left_of end (j + 1) (i + 1) ns))) at k
+unfolding joined
+so_far_pair end j i ns n v h l w s p q =
+    so_far_more (space ∷ write_pair (pair_at j) n) (joined space (continued (pair_at j).kind n (left_of end (j + 1) (i + 1) ns)))
+    (so_far_is (ap (joined space) (left_step end j i ns n v h l w)) s)
+    (put_append (omega (arith, s.room, put_length s.put)) p q)

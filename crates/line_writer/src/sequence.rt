@@ -5,6 +5,7 @@ ghost use Rattle.grammar.specs.Values.{list_of};
 use grammar::Values;
 
 // The value at a place, counted from 0.
+#[tactic(auto, unfolding(grammar::specs::Values::list_of))]
 pub(super) fn value_at(v: Values, i: usize) -> u16
     ensures { result ≡ get_or (list_of v) i 0 }
 {

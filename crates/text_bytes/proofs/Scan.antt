@@ -2,6 +2,7 @@
 use Prim.Native.Nat.{ℕ, ◌+◌, ◌-◌, ◌*◌, ◌≤◌, ◌<◌, min}
 use mathlib.Core.Bool.{Bool, true, false, cond, ◌&&◌}
 use mathlib.Core.List.{List, [], ◌∷◌}
+use mathlib.Core.Logic.{inl, inr}
 use mathlib.Core.Path.{◌≡◌, refl, sym, ap, ◌∙◌}
 use native.Mathlib.Omega.{arith}
 use native.Mathlib.Numerals.{add-one}
@@ -10,6 +11,7 @@ use lib.ListN.{length, get_or, drop, drop_of_length-le}
 use lib.Seq.{drop-cons}
 use Rattle.text.specs.Number.{is_digit, all_digits, number_from, number_of, is_number, read_number}
 use Rattle.text.specs.declared.Decimal.TheVariants.{Number, Malformed, Outside}
+use Rattle.text.proofs.Numbers.{number_digits}
 use Rattle.text_bytes.specs.internal.Digits.{too_large, scan}
 use Rattle.text_bytes.specs.declared.decimals.Digits.{Digits}
 use Rattle.text_bytes.specs.declared.decimals.Digits.TheVariants.{Upto, Broken}
@@ -67,6 +69,12 @@ whole s n e = go (all_digits s) (sym (scanned s 0 (omega arith)) ∙ e)
     go : (t : Bool) → answered t (min (number_of s) too_large) ≡ Upto n → (t ≡ true) × (n ≡ min (number_of s) too_large)
     go true q = (refl, (cc))
     go false q = ((cc), (cc))
+
+-- a text with a byte, and no zero before others, is a number where all of it is digits
+pub tested : (s : List ℕ) → (length s ≡ 0 → ⊥) → (1 < length s → get_or s 0 0 ≡ 48 → ⊥) → is_number s ≡ all_digits s
+tested [] h k = absurd (h refl)
+tested (b ∷ []) h k = number_digits (b ∷ []) h (inl (omega arith))
+tested (b ∷ c ∷ s) h k = number_digits (b ∷ c ∷ s) h (inr (k (omega arith)))
 
 -- ---- what reading answers
 

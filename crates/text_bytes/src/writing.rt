@@ -31,6 +31,7 @@ pub fn put_bytes(out: &mut [u8], at: usize, s: &[u8]) -> usize
     next
 }
 
+#[tactic(auto, using(text::proofs::Numerals::decimal_one))]
 pub fn put_decimal(out: &mut [u8], at: usize, n: u32) -> usize
     ensures { Put out.old out.new (decimal_of n) at result }
 {

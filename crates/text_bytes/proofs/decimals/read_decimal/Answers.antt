@@ -1,12 +1,9 @@
 -- Past the tests on the first byte, the text is a number where all of it is digits.
-use mathlib.Core.Logic.{inl, inr}
 use mathlib.Core.Path.{sym, ◌∙◌}
-use Rattle.std.proofs.Common.{◌≡◌, arith}
-use Rattle.text.specs.Number.{is_number, all_digits}
-use Rattle.text.proofs.Numbers.{number_empty, number_zero, number_digits}
-use Rattle.text_bytes.proofs.Scan.{broken, whole, read_malformed, read_outside, read_number_lem}
+use Rattle.std.proofs.Common.{arith}
+use Rattle.text.proofs.Numbers.{number_empty, number_zero}
+use Rattle.text_bytes.proofs.Scan.{tested, broken, whole, read_malformed, read_outside, read_number_lem}
 use Rattle.text_bytes.proofs.decimals.read_decimal.Goals as goal
-use Rattle.text_bytes.proofs.decimals.read_decimal.Goals.{then-v-gt1+else-v-eq-DIGIT_ZERO, else-v-gt1}
 
 pub returns-then-v-eq0 : goal.returns-then-v-eq0
 returns-then-v-eq0 c = read_malformed _ _ (number_empty _ (omega arith))
@@ -16,23 +13,14 @@ returns-then-v-eq-DIGIT_ZERO c = read_malformed _ _ (number_zero _ (omega arith)
 
 pub returns-in_default : goal.returns-in_default
 returns-in_default c =
-    let rest : is_number c.args.v.now ≡ all_digits c.args.v.now =
-    number_digits c.args.v.now (λ e. omega arith)
-    (elim c.if-v-gt1.branch [ then-v-gt1+else-v-eq-DIGIT_ZERO w ↦ inr (λ e. omega arith) | else-v-gt1 w ↦ inl (omega arith) ]) in
-    read_malformed _ _ (rest ∙ broken _ (sym c.in_default.ensures))
+    read_malformed _ _ (tested c.args.v.now (λ e. omega arith) (λ l e. grind arith) ∙ broken _ (sym c.in_default.ensures))
 
 pub returns-then-n-above : goal.returns-then-n-above
 returns-then-n-above c =
-    let rest : is_number c.args.v.now ≡ all_digits c.args.v.now =
-    number_digits c.args.v.now (λ e. omega arith)
-    (elim c.if-v-gt1.branch [ then-v-gt1+else-v-eq-DIGIT_ZERO w ↦ inr (λ e. omega arith) | else-v-gt1 w ↦ inl (omega arith) ]) in
     let w = whole _ c.in-Upto.n (sym c.in-Upto.ensures) in
-    read_outside _ _ c.in-Upto.n (rest ∙ w.0) w.1 (omega arith)
+    read_outside _ _ c.in-Upto.n (tested c.args.v.now (λ e. omega arith) (λ l e. grind arith) ∙ w.0) w.1 (omega arith)
 
 pub returns : goal.returns
 returns c =
-    let rest : is_number c.args.v.now ≡ all_digits c.args.v.now =
-    number_digits c.args.v.now (λ e. omega arith)
-    (elim c.if-v-gt1.branch [ then-v-gt1+else-v-eq-DIGIT_ZERO w ↦ inr (λ e. omega arith) | else-v-gt1 w ↦ inl (omega arith) ]) in
     let w = whole _ c.in-Upto.n (sym c.in-Upto.ensures) in
-    read_number_lem _ _ c.in-Upto.n (omega arith) (rest ∙ w.0) w.1 (omega arith)
+    read_number_lem _ _ c.in-Upto.n (omega arith) (tested c.args.v.now (λ e. omega arith) (λ l e. grind arith) ∙ w.0) w.1 (omega arith)

@@ -2,11 +2,8 @@
 use mathlib.Core.Path.{sym}
 use Rattle.std.proofs.Common.{arith}
 use Rattle.text.proofs.Puts.{put_append, put_is}
-use Rattle.text.proofs.Numerals.{decimal_one, decimal_more}
+use Rattle.text.proofs.Numerals.{decimal_more}
 use Rattle.text_bytes.proofs.writing.+put_decimal.Goals as goal
-
-pub returns-then-n-lt10 : goal.returns-then-n-lt10
-returns-then-n-lt10 t c = put_is (sym (decimal_one c.args.n (omega arith))) c.put_byte.ensures
 
 pub returns : goal.returns
 returns t c =
