@@ -15,7 +15,7 @@ use Rattle.text.proofs.Values.{value_pair}
 use Rattle.text.proofs.Theorems.{not_shortened, read_writes}
 use Rattle.word.specs.Field.{inside}
 use Rattle.word.specs.Profile.{Range}
-use Rattle.grammar.specs.declared.Value.TheVariants.{Number, Malformed, Outside}
+use Rattle.grammar.specs.declared.Value.TheVariants.{Number, Malformed}
 use Rattle.grammar.specs.Form.{Kind, number, decision, answers, Pair, Reading, values, held, read_value, read_pair, at_end, read_form, write_value, write_pair, continued, write_form, keyword, read_keyword}
 use Rattle.grammar.specs.Theorems.{fits_kind, is_empty, fits_after, fits_form}
 use Rattle.grammar.proofs.Places.{malformed_number, outside_number, chosen, keyword_read}

@@ -1,7 +1,7 @@
 -- A line stands for a ramp up by 0 exactly where it is read and its parts say so.
 use Prim.Native.Nat.{ℕ}
 use mathlib.Core.List.{List, [], ◌∷◌}
-use mathlib.Core.Path.{◌≡◌, refl, sym, ap, subst, ◌∙◌}
+use mathlib.Core.Path.{◌≡◌, refl, sym, ap, ◌∙◌}
 use Rattle.text.specs.Bytes.{ascii, same, lacks, space, split, value_of, is_keyword}
 use Rattle.text.specs.Number.{digits, decimal_of, is_digit, all_digits, number_from, is_number, read_number}
 use Rattle.word.specs.Profile.{Profile, LP5523}
