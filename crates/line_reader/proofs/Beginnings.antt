@@ -1,12 +1,9 @@
 -- How a plan line or an op line begins; and the tables of its names.
 use Prim.Native.Nat.{ℕ, ◌+◌, ◌≤◌, ◌<◌}
-use mathlib.Core.List.{List, [], ◌∷◌}
-use mathlib.Core.Logic.{⊎_elim}
+use mathlib.Core.List.{List}
 use mathlib.Core.Path.{◌≡◌, refl, sym, ap, ◌∙◌}
 use native.Mathlib.Omega.{arith}
 use lib.ListN.{length}
-use types.Run.{OneOf}
-use denote.Enum.Declared.{tag_of}
 use Rattle.text.specs.Bytes.{ascii, space, split, part_at, value_of}
 use Rattle.word.specs.Profile.{LP5523}
 use Rattle.grammar.specs.declared.LineKind.{LineKind}
@@ -16,7 +13,6 @@ use Rattle.grammar.specs.declared.Value.TheVariants.{Number, Malformed, Outside}
 use Rattle.grammar.specs.Form.{before, read_keyword, read_form}
 use Rattle.grammar.specs.Grammar.{named, read_op, read_parts}
 use Rattle.grammar.specs.internal.Tables.{op_count, form_count, form_of, parts_from, stopped_by}
-use Rattle.grammar.specs.contracts.LineKind as kinds
 use Rattle.grammar.proofs.Tables.{name_bytes, name_at, name_starts, name_ends, name_is}
 use Rattle.grammar.proofs.Walk.{keywords_from, plan_line, op_line, op_small, op_goes}
 use Rattle.line_reader.specs.internal.Steps.{Lent, number_or, read_plan_or_op, first_of, form_after}
@@ -26,23 +22,13 @@ pub tables : Lent name_bytes name_at
 unfolding name_bytes name_at
 tables = record { counted = refl; ordered = name_starts; within = name_ends; name_is = name_is }
 
--- a kind that is not a plan line's
-abbrev pub NotPlan : LineKind → Type 0
-NotPlan k = OneOf (0 ∷ 2 ∷ 3 ∷ []) (tag_of kinds.the_type k)
-
-pub not_plan : (F : LineKind → Type 0) → F Op → F Row → F Spare → (k : LineKind) → NotPlan k → F k
-not_plan F o r s Op h = o
-not_plan F o r s (Plan i) h = absurd (⊎_elim (λ e. omega arith) (λ g. ⊎_elim (λ e. omega arith) (λ e. omega arith) g) h)
-not_plan F o r s Row h = r
-not_plan F o r s Spare h = s
-
 -- of the other kinds only these two go on after their first pair
-pub plan_or_op : (k : LineKind) (ps : List (List ℕ)) → OneOf (0 ∷ 1 ∷ []) (tag_of kinds.the_type k) → read_plan_or_op k ps ≡ read_parts LP5523 k ps
+pub plan_or_op : (k : LineKind) (ps : List (List ℕ)) → (k ≡ Row → ⊥) → (k ≡ Spare → ⊥) → read_plan_or_op k ps ≡ read_parts LP5523 k ps
 unfolding read_plan_or_op read_parts
-plan_or_op Op ps h = refl
-plan_or_op (Plan i) ps h = refl
-plan_or_op Row ps h = absurd (⊎_elim (λ e. omega arith) (λ e. omega arith) h)
-plan_or_op Spare ps h = absurd (⊎_elim (λ e. omega arith) (λ e. omega arith) h)
+plan_or_op Op ps r s = refl
+plan_or_op (Plan i) ps r s = refl
+plan_or_op Row ps r s = absurd (r refl)
+plan_or_op Spare ps r s = absurd (s refl)
 
 module _ (line part : List ℕ) (is : part ≡ part_at space 0 line) where
   abbrev rest : List (List ℕ)

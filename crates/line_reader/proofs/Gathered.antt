@@ -89,6 +89,13 @@ one_more_lem n ns w Malformed (refused k) = ap Refused (lowest_twice w 20 k refl
 one_more_lem n ns w Outside (values xs) = rw (lowest_not_0 w 22 refl)
 one_more_lem n ns w Outside (refused k) = ap Refused (lowest_twice w 22 k refl)
 
+-- the first value, when nothing else is gathered
+pub first_more : (v : Value) (n w : ℕ) (r : Reading) → n ≡ number_or 0 v → w ≡ refusal_with 0 v
+    → line_read_of (before v r) ≡ with_rest 1 (n ∷ 0 ∷ 0 ∷ 0 ∷ 0 ∷ 0 ∷ 0 ∷ []) w r
+first_more v n w r e f =
+    all_rest (before v r) ∙ one_more_lem 0 (0 ∷ 0 ∷ 0 ∷ 0 ∷ 0 ∷ 0 ∷ 0 ∷ []) 0 v r
+    ∙ sym (λ i. with_rest 1 (e i ∷ 0 ∷ 0 ∷ 0 ∷ 0 ∷ 0 ∷ 0 ∷ []) (f i) r)
+
 -- ---- where the line ends
 
 module _ (n : ℕ) (ns : List ℕ) (w : ℕ) where

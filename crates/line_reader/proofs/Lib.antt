@@ -1,2 +1,3 @@
 mod Gathered
 mod Beginnings
+mod Others

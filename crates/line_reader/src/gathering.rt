@@ -6,6 +6,7 @@ ghost use Rattle.line_reader.specs.internal.Steps.{lowest, number_or, refusal_wi
 use super::sequence::lower;
 use grammar::{LineRead, Value, Values};
 
+#[tactic(auto, unfolding(crate::specs::internal::Steps::lowest))]
 pub(super) fn lowest(refusal: u16, k: u16) -> u16
     ensures { result ≡ lowest refusal k }
 {
@@ -16,6 +17,7 @@ pub(super) fn lowest(refusal: u16, k: u16) -> u16
 }
 
 // The number that is kept of a value: 0 where there is none.
+#[tactic(auto, unfolding(crate::specs::internal::Steps::number_or))]
 pub(super) fn number_in(value: Value) -> u16
     ensures { result ≡ number_or 0 value }
 {
@@ -26,6 +28,7 @@ pub(super) fn number_in(value: Value) -> u16
 }
 
 // The refusal so far, a value among what is judged.
+#[tactic(auto, unfolding(crate::specs::internal::Steps::refusal_with))]
 pub(super) fn refusal_with(refusal: u16, value: Value) -> u16
     ensures { result ≡ refusal_with refusal value }
 {
@@ -37,6 +40,7 @@ pub(super) fn refusal_with(refusal: u16, value: Value) -> u16
 }
 
 // The line's values, where nothing is refused: neither before nor in the rest.
+#[tactic(auto, unfolding(crate::specs::internal::Steps::gathered, grammar::specs::Values::values_of))]
 pub(super) fn gathered(values: [u16; 7], refusal: u16, rest: LineRead) -> LineRead
     ensures { result ≡ gathered values refusal rest }
 {

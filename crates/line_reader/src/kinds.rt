@@ -37,6 +37,7 @@ pub(super) fn read_number(v: &[u8]) -> Value
 }
 
 // What there is in place of a number.
+#[tactic(auto, unfolding(grammar::specs::Form::held, word::specs::Field::inside))]
 fn refused(d: Decimal) -> Value
     ensures { result ≡ held [] d }
 {

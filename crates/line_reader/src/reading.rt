@@ -40,6 +40,7 @@ fn read_engine(part: &[u8], engine: u16) -> Value
 }
 
 // The first value of a plan line or an op line.
+#[tactic(auto, unfolding(crate::specs::internal::Steps::first_of))]
 fn read_first(bytes: &[u8], places: &[u16], part: &[u8], kind: LineKind) -> Value
     requires { Lent bytes.now places.now }
     ensures { result ≡ first_of kind part.now }
@@ -51,6 +52,7 @@ fn read_first(bytes: &[u8], places: &[u16], part: &[u8], kind: LineKind) -> Valu
 }
 
 // The form by which such a line goes on; past the last one where its op is unknown.
+#[tactic(auto, unfolding(crate::specs::internal::Steps::form_after, crate::specs::internal::Steps::number_or))]
 fn form_after(kind: LineKind, first: Value) -> usize
     ensures { result ≡ form_after kind first }
 {

@@ -11,6 +11,7 @@ pub(super) fn lower(a: u16, b: u16) -> u16
 }
 
 // A value in front of others.
+#[tactic(auto, unfolding(grammar::specs::internal::Tables::before_read))]
 pub(super) fn before(value: Value, rest: LineRead) -> LineRead
     ensures { result ≡ before_read value rest }
 {

@@ -42,6 +42,7 @@ pub(super) fn at_end(line: &[u8], at: usize) -> LineRead
 }
 
 // After an unknown keyword only the shape of the pairs is judged.
+#[tactic(auto, unfolding(grammar::specs::Form::unknown, grammar::specs::Values::line_read_of))]
 fn unknown(line: &[u8], at: usize, number: u16) -> LineRead
     ensures { result ≡ line_read_of (unknown number (parts_from at line.now)) }
 {
@@ -52,6 +53,7 @@ fn unknown(line: &[u8], at: usize, number: u16) -> LineRead
 }
 
 // After a value with which a form ends: an unknown keyword, no keyword, or a no.
+#[tactic(auto, unfolding(grammar::specs::internal::Tables::stopped_by, grammar::specs::Values::line_read_of))]
 pub(super) fn stopped(line: &[u8], at: usize, value: Value, number: u16) -> LineRead
     ensures { result ≡ line_read_of (stopped_by number value (parts_from at line.now)) }
 {
