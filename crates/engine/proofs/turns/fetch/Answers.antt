@@ -8,7 +8,7 @@ use Rattle.engine.proofs.turns.fetch.Goals as goal
 pub returns-then-not-inside : goal.returns-then-not-inside
 returns-then-not-inside c =
     let a = c.args in
-    starts_past a.c a.d a.memory.now (engine_of a.k a.counts.now) c.inside-arg-1.given.0 (failed c.inside.ensures c.if-not-inside.true) (c.fetch_pc-pc.ensures _) c.restarts.ensures
+    starts_past a.c a.d a.memory.now (engine_of a.k a.counts.now) (search rules) (failed c.inside.ensures c.if-not-inside.true) (c.fetch_pc-pc.ensures _) c.restarts.ensures
 
 pub begins-requires : goal.begins-requires
 begins-requires c = let p = c.requires in (fetch_below c.args.k.start c.args.k.pc p.0, small _ _ (sym p.1))
@@ -16,4 +16,4 @@ begins-requires c = let p = c.requires in (fetch_below c.args.k.start c.args.k.p
 pub returns : goal.returns
 returns c =
     let a = c.args in
-    starts_at a.c a.d a.memory.now (engine_of a.k a.counts.now) c.inside-arg-1.given.0 (passed c.inside.ensures c.if-not-inside.false) c.requires.0 c.requires.1 (c.fetch_pc-pc.ensures _) c.begins.ensures
+    starts_at a.c a.d a.memory.now (engine_of a.k a.counts.now) (search rules) (passed c.inside.ensures c.if-not-inside.false) c.requires.0 c.requires.1 (c.fetch_pc-pc.ensures _) c.begins.ensures
