@@ -1,5 +1,5 @@
 -- `engine::pending::received` meets its contract.
-use Rattle.std.proofs.Common.{◌≡◌, ℕ, ◌/◌, ◌%◌, ◌^◌, Bool, cond, eqb, List, [], ◌∷◌, length, get_or, sym, refl, ap, ◌∙◌, ap₂, arith, rules}
+use Rattle.std.proofs.Common.{◌≡◌, ℕ, ◌/◌, ◌%◌, ◌^◌, Bool, cond, eqb, [], ◌∷◌, length, get_or, sym, refl, ap, ◌∙◌, ap₂, arith, rules}
 use lib.Bits.{bit_or}
 use Rattle.machine.specs.declared.Engine.{Engine}
 use Rattle.machine.specs.Parts.{bit, each, with_pending}

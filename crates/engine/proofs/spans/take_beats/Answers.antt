@@ -1,25 +1,15 @@
 -- `engine::spans::take_beats` meets its contract.
-use Rattle.std.proofs.Common.{◌≡◌, ℕ, ◌+◌, ◌-◌, ◌<◌, ◌≤◌, Bool, true, false, cond, ◌||◌, leb, List, [], ◌∷◌, length, get_or, set, sym, refl, ap, ◌∙◌, subst, ⊎_elim, true≢false, arith, length-set, rules}
-use Rattle.laws.proofs.Tests.{by_cond}
-use Rattle.word.specs.Profile.{LP5523}
-use Rattle.word.specs.Decode.{decode_of, word_at}
+use Rattle.std.proofs.Common.{◌≡◌, ℕ, ◌+◌, ◌-◌, ◌≤◌, false, ◌||◌, [], length, get_or, set, sym, refl, ap, ◌∙◌, arith, length-set, rules}
 use Rattle.word.specs.Steps.{step_at, address_at}
-use Rattle.word.specs.declared.Word.{Word}
-use Rattle.word.specs.declared.Word.TheVariants.{Rst}
 use Rattle.machine.specs.declared.Mode.TheVariants.{Disabled}
 use Rattle.machine.specs.declared.Exec.TheVariants.{Hold}
 use Rattle.machine.specs.declared.Progress.TheVariants.{BetweenWords}
 use Rattle.machine.specs.Parts.{pointers}
-use Rattle.machine.proofs.Common.{all_alike}
 use Rattle.engine_core.proofs.Three.{unmapped}
 use Rattle.engine_core.specs.declared.EngineCore.{EngineCore}
-use Rattle.engine.specs.declared.Span.{Span}
-use Rattle.engine.specs.Parts.{Fixed, spanned}
-use Rattle.engine.specs.Spans.{span_of}
-use Rattle.engine.specs.internal.Fetches.{Decoded}
 use Rattle.engine.proofs.TurnOf.{Acted, lasting, turning, none_received, no_pin}
 use Rattle.engine.proofs.IdleOf.{all_idled}
-use Rattle.engine.proofs.SpanOf.{at, rest, idle_taken, span_quiet, span_done, span_on, turn_taken, beat_done, later_words, all_words}
+use Rattle.engine.proofs.SpanOf.{at, idle_taken, span_quiet, span_done, span_on, turn_taken, beat_done, later_words, all_words}
 use Rattle.engine.proofs.spans.take_beats.Goals as goal
 use Rattle.engine.proofs.spans.take_beats.Goals.{then-outlasts, else-outlasts}
 
@@ -66,12 +56,13 @@ pub loop-i-preserved-then-send-ne0 : goal.loop-i-preserved-then-send-ne0
 loop-i-preserved-then-send-ne0 c =
     let x = c.loop-i in let I = x.invariant in let a = c.args in
     let A : Acted x.c a.d a.memory.now x.cores x.counts x.words x.i (get_or x.cores x.i no-core) c.if-outlasts.c c.if-outlasts.cores c.if-outlasts.counts c.if-outlasts.words c.if-outlasts.effect c.if-outlasts.send =
-        let k = get_or x.cores x.i no-core in let counts = get_or x.counts x.i [] in
-        elim c.if-outlasts.branch [
-          then-outlasts w ↦ lasting x.c a.d a.memory.now x.cores x.counts x.words x.i k w.lasted.result w.counts-is w.cores-is w.c-is w.words-is (w.effect-is ∙ w.effect_of-effect.ensures) w.send-is
-            (sym (c.outlasts.ensures counts) ∙ w.if-outlasts.true) (w.lasted.ensures counts)
-        | else-outlasts w ↦ turning x.c a.d a.memory.now x.cores x.counts x.words x.i k w.turn-t.result w.turn-t.new.counts w.one_more.result w.counts-is w.cores-is w.c-is w.words-is w.effect-is w.send-is
-            w.one_more.ensures w.turn-t.ensures ] in
+    let k = get_or x.cores x.i no-core in let counts = get_or x.counts x.i [] in
+    elim c.if-outlasts.branch [
+      | then-outlasts w ↦ lasting x.c a.d a.memory.now x.cores x.counts x.words x.i k w.lasted.result w.counts-is w.cores-is w.c-is w.words-is (w.effect-is ∙ w.effect_of-effect.ensures) w.send-is
+          (sym (c.outlasts.ensures counts) ∙ w.if-outlasts.true) (w.lasted.ensures counts)
+      | else-outlasts w ↦ turning x.c a.d a.memory.now x.cores x.counts x.words x.i k w.turn-t.result w.turn-t.new.counts w.one_more.result w.counts-is w.cores-is w.c-is w.words-is w.effect-is w.send-is
+          w.one_more.ensures w.turn-t.ensures
+    ] in
     let i : x.i + 1 - 1 ≡ x.i = omega arith in (
       λ f p q l.
           let n = I.3 ∙ l in
@@ -90,12 +81,13 @@ pub loop-i-preserved : goal.loop-i-preserved
 loop-i-preserved c =
     let x = c.loop-i in let I = x.invariant in let a = c.args in
     let A : Acted x.c a.d a.memory.now x.cores x.counts x.words x.i (get_or x.cores x.i no-core) c.if-outlasts.c c.if-outlasts.cores c.if-outlasts.counts c.if-outlasts.words c.if-outlasts.effect c.if-outlasts.send =
-        let k = get_or x.cores x.i no-core in let counts = get_or x.counts x.i [] in
-        elim c.if-outlasts.branch [
-          then-outlasts w ↦ lasting x.c a.d a.memory.now x.cores x.counts x.words x.i k w.lasted.result w.counts-is w.cores-is w.c-is w.words-is (w.effect-is ∙ w.effect_of-effect.ensures) w.send-is
-            (sym (c.outlasts.ensures counts) ∙ w.if-outlasts.true) (w.lasted.ensures counts)
-        | else-outlasts w ↦ turning x.c a.d a.memory.now x.cores x.counts x.words x.i k w.turn-t.result w.turn-t.new.counts w.one_more.result w.counts-is w.cores-is w.c-is w.words-is w.effect-is w.send-is
-            w.one_more.ensures w.turn-t.ensures ] in (
+    let k = get_or x.cores x.i no-core in let counts = get_or x.counts x.i [] in
+    elim c.if-outlasts.branch [
+      | then-outlasts w ↦ lasting x.c a.d a.memory.now x.cores x.counts x.words x.i k w.lasted.result w.counts-is w.cores-is w.c-is w.words-is (w.effect-is ∙ w.effect_of-effect.ensures) w.send-is
+          (sym (c.outlasts.ensures counts) ∙ w.if-outlasts.true) (w.lasted.ensures counts)
+      | else-outlasts w ↦ turning x.c a.d a.memory.now x.cores x.counts x.words x.i k w.turn-t.result w.turn-t.new.counts w.one_more.result w.counts-is w.cores-is w.c-is w.words-is w.effect-is w.send-is
+          w.one_more.ensures w.turn-t.ensures
+    ] in (
       λ f p q l.
           let n = I.3 ∙ l in
           turn_taken no-core A f p q c.loop-i-test.true I.2 n c.held-bits.result x.levels c.with_effect.new.levels c.if-outlasts.cores c.held-bits.ensures c.with_effect.ensures

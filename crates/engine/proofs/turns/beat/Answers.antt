@@ -1,5 +1,4 @@
 -- `engine::turns::beat` meets its contract.
-use Rattle.std.proofs.Common.{rules}
 use Rattle.laws.proofs.Matches.{via}
 use Rattle.word.specs.Profile.{LP5523}
 use Rattle.machine.specs.Turn.{beat_of}

@@ -1,9 +1,7 @@
 -- `engine::words::begins` meets its contract: each arm knows its case.
-use Rattle.std.proofs.Common.{refl, arith, rules}
 use Rattle.word.specs.Profile.{LP5523}
 use Rattle.machine.specs.Words.{begins}
 use Rattle.laws.proofs.Matches.{via}
-use Rattle.word.proofs.Later.{later}
 use Rattle.engine.proofs.words.begins.Goals as goal
 
 pub returns-in-Rst : goal.returns-in-Rst

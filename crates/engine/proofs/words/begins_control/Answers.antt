@@ -1,9 +1,9 @@
 -- `engine::words::begins_control` meets its contract: each arm knows its case.
-use Rattle.std.proofs.Common.{refl, arith, rules}
+use Rattle.std.proofs.Common.{arith}
 use Rattle.word.specs.Profile.{LP5523}
 use Rattle.machine.specs.Words.{begins}
 use Rattle.laws.proofs.Matches.{via}
-use Rattle.word.proofs.Later.{later, undefined}
+use Rattle.word.proofs.Later.{undefined}
 use Rattle.engine.proofs.words.begins_control.Goals as goal
 
 pub returns-in-Branch : goal.returns-in-Branch
