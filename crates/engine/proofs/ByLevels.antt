@@ -1,7 +1,6 @@
 -- The outputs after a beat, by their levels.
 use Rattle.std.proofs.Common.{◌≡◌, ℕ, zero, suc, ◌+◌, ◌<◌, Bool, true, false, cond, not, ◌&&◌, ◌||◌, eqb, List, [], ◌∷◌, map, length, get_or, set, sym, refl, ap, ◌∙◌, ap₂, arith, eq-eqb, ne_eqb}
-use mathlib.Core.Bool.{or-true, or_assoc}
-use Rattle.laws.proofs.Tests.{by_cond, same, and_true, and_false, or_false}
+use Rattle.laws.proofs.Tests.{by_cond, same, and_false}
 use Rattle.word.specs.Profile.{LP5523}
 use Rattle.machine.specs.declared.Engine.{Engine}
 use Rattle.machine.specs.declared.Output.{Output}
@@ -22,22 +21,7 @@ each_none f h i (x ∷ xs) = ap₂ (λ (y : _) (ys : List _). y ∷ ys) (h i x) 
 pub levels_kept : (held : ℕ) (levels : List ℕ) → levels_after held Keep levels ≡ levels
 levels_kept held levels = each_none (level_after held Keep) (λ k n. same (bit held (row_bit LP5523 k)) n) 0 levels
 
--- one more core before: its bits are not held
-pub one_less : (d : EngineCore) (i : ℕ) (ks : List EngineCore) (b : ℕ) (m v : Bool) {r : Bool} → i < length ks →
-    v ≡ (m && not (asked_before i ks b)) → r ≡ (v && not (bit (get_or ks i d).mask b)) → r ≡ (m && not (asked_before (suc i) ks b))
-one_less d i ks b m v h e g = g ∙ ap (λ (x : Bool). x && not (bit (get_or ks i d).mask b)) e ∙ both_not m (asked_before i ks b) _ ∙ ap (λ (x : Bool). m && not x) (sym (next i ks h))
-  where
-    both_not : (m a y : Bool) → (m && not a && not y) ≡ (m && not (a || y))
-    both_not true a true = and_false (not a) ∙ ap not (sym (or-true a))
-    both_not true a false = and_true (not a) ∙ ap not (sym (or_false a))
-    both_not false a y = refl
-
-    next : (i : ℕ) (ks : List EngineCore) → i < length ks → asked_before (suc i) ks b ≡ (asked_before i ks b || bit (get_or ks i d).mask b)
-    next i [] h = absurd (omega arith)
-    next zero (k ∷ ks) h = or_false (bit k.mask b)
-    next (suc i) (k ∷ ks) h = ap (λ (x : Bool). bit k.mask b || x) (next i ks (omega arith)) ∙ sym (or_assoc (bit k.mask b) _ _)
-
--- nor does what is put at i matter to what stands before
+-- what is put at i does not matter to what stands before
 pub asked_set : (i : ℕ) (ks : List EngineCore) (k : EngineCore) (b : ℕ) → asked_before i (set ks i k) b ≡ asked_before i ks b
 asked_set zero ks k b = refl
 asked_set (suc i) [] k b = refl

@@ -1,7 +1,7 @@
 -- What is known of the word that an engine fetches: where it stands, that its operands are small, and that past the memory it is rst.
-use Rattle.std.proofs.Common.{◌≡◌, ℕ, ◌+◌, ◌<◌, ◌≤◌, true, false, ltb, List, length, sym, refl, ap, ◌∙◌, subst, ap₂, arith, ltb-false, ltb-true, lt-ltb}
+use Rattle.std.proofs.Common.{◌≡◌, ℕ, ◌<◌, ◌≤◌, false, ltb, List, length, sym, refl, ap, ◌∙◌, subst, arith, ltb-false, ltb-true}
 use lib.ListN.{get_or-eq_default}
-use Rattle.laws.proofs.Tests.{by_test, by_cond}
+use Rattle.laws.proofs.Tests.{by_cond}
 use Rattle.word.specs.Profile.{LP5523}
 use Rattle.word.specs.Decode.{reading, decode_of, word_at}
 use Rattle.word.specs.declared.Direction.TheVariants.{Up, Down}
@@ -56,12 +56,6 @@ fetch_below start pc e =
     subst (λ (n : ℕ). n < 96) (sym e)
     (by_cond (λ (n : ℕ). n < 96) (ltb (address_of start pc) 96) (λ t. ltb-true _ _ t) (λ t. by_cond (λ (n : ℕ). n < 96) (ltb start.0 96) (λ u. ltb-true _ _ u) (λ u. omega arith)))
 
-fetched : (e : Engine) {at : ℕ} → at ≡ fetch_at e.start e.pc → e.start.0 < 96 → at ≡ address_of (returned LP5523 e).start (returned LP5523 e).pc
-fetched e p h =
-    by_test (ltb (address_of e.start e.pc) 96)
-    (λ t. p ∙ rw t)
-    (λ t. let z : e.start.0 + 0 ≡ e.start.0 = omega arith in p ∙ rw (t, lt-ltb e.start.0 96 h, z))
-
 -- the first beat of a word, from what the code computes of it; e' is the engine as it fetches
 module _ (c d : ℕ) (memory : List ℕ) (e : Engine) {e' : Engine} {t : BeatResult} where
   pub starts_past : length memory ≡ 96 → ltb e'.start.0 (length memory) ≡ false → e' ≡ returned LP5523 e → t ≡ ends c (with_loops (zero_counts LP5523) e') Keep 0 (step_at 0) → t ≡ starts LP5523 c d memory (returned LP5523 e)
@@ -71,11 +65,3 @@ module _ (c d : ℕ) (memory : List ℕ) (e : Engine) {e' : Engine} {t : BeatRes
       g
       ∙ sym (ap (begins LP5523 c d memory e' (address_of e'.start e'.pc)) (past memory (address_of e'.start e'.pc) l (omega arith)))
       ∙ ap (starts LP5523 c d memory) r
-
-  pub starts_at : {at : ℕ} {w : Word} → length memory ≡ 96 → ltb e.start.0 (length memory) ≡ true → at ≡ fetch_at e.start e.pc → w ≡ word_at LP5523 memory at → e' ≡ returned LP5523 e → t ≡ begins LP5523 c d memory e' at w → t ≡ starts LP5523 c d memory (returned LP5523 e)
-  starts_at l h p q r g =
-      let n = ltb-true e.start.0 (length memory) h in
-      let at = fetched e p (omega arith) in
-      g
-      ∙ ap₂ (begins LP5523 c d memory e') at (q ∙ ap (word_at LP5523 memory) at)
-      ∙ ap (λ (x : Engine). begins LP5523 c d memory x (address_of (returned LP5523 e).start (returned LP5523 e).pc) (word_at LP5523 memory (address_of (returned LP5523 e).start (returned LP5523 e).pc))) r

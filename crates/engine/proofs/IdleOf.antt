@@ -1,5 +1,5 @@
 -- A beat in which all engines idle.
-use Rattle.std.proofs.Common.{◌≡◌, ℕ, ◌-◌, Bool, true, false, cond, not, ◌||◌, ltb, List, [], ◌∷◌, map, length, get_or, set, sym, refl, ap, ◌∙◌, arith, ltb-true}
+use Rattle.std.proofs.Common.{◌≡◌, ℕ, ◌-◌, Bool, true, false, cond, not, ◌||◌, ltb, List, [], ◌∷◌, map, length, get_or, set, sym, ap, ◌∙◌, arith, ltb-true}
 use mathlib.Core.Bool.{false≢true}
 use borrow.Author.Tests.{lt-leb}
 use Rattle.laws.proofs.Tests.{by_test, and_left, and_right}

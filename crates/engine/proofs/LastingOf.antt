@@ -1,5 +1,5 @@
 -- A beat of a word in progress in which it doesn't end.
-use Rattle.std.proofs.Common.{◌≡◌, ℕ, ◌-◌, Bool, true, false, cond, not, ◌&&◌, ◌||◌, eqb, ltb, leb, List, sym, refl, ap, ◌∙◌, ap₂, ltb-false, ltb-true, le-leb}
+use Rattle.std.proofs.Common.{◌≡◌, ℕ, Bool, true, cond, not, ◌&&◌, ◌||◌, eqb, ltb, List, sym, refl, ap, ◌∙◌, ap₂, ltb-false, ltb-true, le-leb}
 use mathlib.Core.Bool.{false≢true}
 use borrow.Author.Tests.{lt-leb, not-true}
 use lib.Bits.{bit_and}
@@ -7,15 +7,13 @@ use Rattle.laws.proofs.Tests.{by_test, and_left, and_right}
 use Rattle.word.specs.Profile.{LP5523}
 use Rattle.machine.specs.declared.Progress.{Progress}
 use Rattle.machine.specs.declared.Progress.TheVariants.{BetweenWords, Waiting, Ramping, Triggering}
-use Rattle.machine.specs.declared.Effect.TheVariants.{Keep, Move}
 use Rattle.machine.specs.declared.Engine.{Engine}
-use Rattle.machine.specs.declared.BeatResult.{BeatResult}
-use Rattle.machine.specs.WordEnd.{step_pc, ends, goes_on, lasts}
+use Rattle.machine.specs.WordEnd.{lasts}
 use Rattle.machine.specs.Durations.{waits, ramps}
 use Rattle.machine.specs.Triggers.{triggers}
 use Rattle.machine.specs.Turn.{is_run, is_hold, mid_word, acts, beat_of}
 use Rattle.engine.specs.internal.Act.{rests}
-use Rattle.engine.specs.internal.Lasting.{continues, progressed, effect_of, outlasts, lasted}
+use Rattle.engine.specs.internal.Lasting.{continues, progressed, effect_of, outlasts}
 
 ramp_lasts : (c : ℕ) (e : Engine) (dir : _) (p l n : ℕ) → (ltb 1 l || ltb 1 n) ≡ true → ramps c e dir p l n ≡ lasts c e (effect_of (Ramping dir p l n)) (progressed (Ramping dir p l n))
 unfolding ramps

@@ -1,4 +1,3 @@
-pub mod Acts
 pub mod Decoded
 pub mod Digits
 pub mod Loops

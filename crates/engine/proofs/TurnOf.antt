@@ -1,5 +1,5 @@
 -- A turn, from what the code computes of it.
-use Rattle.std.proofs.Common.{◌≡◌, ℕ, ◌+◌, ◌%◌, ◌^◌, ◌<◌, Bool, true, false, cond, not, ◌&&◌, ◌||◌, eqb, List, [], ◌∷◌, map, length, get_or, set, sym, refl, ap, ◌∙◌, ap₂, arith, length-set}
+use Rattle.std.proofs.Common.{◌≡◌, ℕ, ◌+◌, ◌%◌, ◌^◌, ◌<◌, Bool, true, false, cond, not, ◌&&◌, ◌||◌, eqb, List, [], ◌∷◌, map, length, get_or, set, sym, ap, ◌∙◌, ap₂, arith, length-set}
 use native.Mathlib.Nat.{zero-div}
 use lib.Bits.{bit_or}
 use Rattle.laws.proofs.Tests.{by_test, same, or_false}

@@ -1,5 +1,4 @@
 -- `engine::branches::branch_var` meets its contract.
-use Rattle.std.proofs.Common.{rules}
 use Rattle.engine.proofs.branches.branch_var.Goals as goal
 
 pub returns : goal.returns

@@ -1,5 +1,5 @@
 -- `engine::branches::branches` meets its contract.
-use Rattle.std.proofs.Common.{rules, eq-eqb, ne_eqb}
+use Rattle.std.proofs.Common.{eq-eqb, ne_eqb}
 use Rattle.machine.specs.Branches.{branches}
 use Rattle.engine.proofs.branches.branches.Goals as goal
 

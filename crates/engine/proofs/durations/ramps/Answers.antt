@@ -1,5 +1,5 @@
 -- `engine::durations::ramps` meets its contract.
-use Rattle.std.proofs.Common.{rules, le-leb}
+use Rattle.std.proofs.Common.{le-leb}
 use borrow.Author.Tests.{lt-leb}
 use Rattle.machine.specs.Durations.{ramps}
 use Rattle.engine.proofs.durations.ramps.Goals as goal

@@ -1,5 +1,5 @@
 -- `engine::durations::waits` meets its contract.
-use Rattle.std.proofs.Common.{rules, le-leb}
+use Rattle.std.proofs.Common.{le-leb}
 use borrow.Author.Tests.{lt-leb}
 use Rattle.machine.specs.Durations.{waits}
 use Rattle.engine.proofs.durations.waits.Goals as goal

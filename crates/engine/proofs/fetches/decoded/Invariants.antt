@@ -1,9 +1,8 @@
 -- `engine::fetches::decoded` meets its contract.
-use Rattle.std.proofs.Common.{◌≡◌, ℕ, ◌-◌, ◌<◌, ◌≤◌, length, get_or, refl, arith, rules}
+use Rattle.std.proofs.Common.{◌≡◌, ℕ, ◌-◌, ◌<◌, ◌≤◌, length, get_or}
 use Rattle.word.specs.Profile.{LP5523}
 use Rattle.word.specs.Decode.{word_at}
 use Rattle.word.specs.declared.Word.TheVariants.{Rst}
-use Rattle.engine.proofs.Loops.{below_more}
 use Rattle.engine.proofs.fetches.decoded.Given as goal
 
 abbrev pub invariant-loop-i : goal.invariant-loop-i

@@ -1,5 +1,5 @@
 -- `engine::idle::idled` meets its contract.
-use Rattle.std.proofs.Common.{◌<◌, ◌≤◌, arith, rules, le-ltb, lt-ltb}
+use Rattle.std.proofs.Common.{◌<◌, ◌≤◌, arith, le-ltb, lt-ltb}
 use Rattle.engine.proofs.idle.idled.Goals as goal
 
 pub returns-then-left-gt0 : goal.returns-then-left-gt0

@@ -1,5 +1,4 @@
 -- `engine::idle::idles` meets its contract.
-use Rattle.std.proofs.Common.{rules}
 use Rattle.laws.proofs.Tests.{failed, passed}
 use Rattle.engine.proofs.idle.idles.Goals as goal
 

@@ -1,5 +1,4 @@
 -- `engine::idle::wait_left` meets its contract.
-use Rattle.std.proofs.Common.{rules}
 use Rattle.laws.proofs.Tests.{failed, passed}
 use Rattle.engine.proofs.idle.wait_left.Goals as goal
 

@@ -1,5 +1,4 @@
 -- `engine::levels::ramp_var` meets its contract.
-use Rattle.std.proofs.Common.{rules}
 use Rattle.engine.proofs.levels.ramp_var.Goals as goal
 
 pub returns : goal.returns

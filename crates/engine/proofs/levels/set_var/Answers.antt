@@ -1,5 +1,4 @@
 -- `engine::levels::set_var` meets its contract.
-use Rattle.std.proofs.Common.{rules}
 use Rattle.engine.proofs.levels.set_var.Goals as goal
 
 pub returns : goal.returns

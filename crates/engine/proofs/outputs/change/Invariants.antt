@@ -1,7 +1,7 @@
 -- `engine::outputs::change` meets its contract.
-use Rattle.std.proofs.Common.{◌≡◌, ◌-◌, ◌≤◌, length, sym, refl, ◌∙◌, arith, rules}
+use Rattle.std.proofs.Common.{◌≡◌, ◌-◌, ◌≤◌, length}
 use Rattle.engine.specs.internal.Levels.{level_after}
-use Rattle.engine.proofs.Loops.{each_to, one_place_more, every_place}
+use Rattle.engine.proofs.Loops.{each_to}
 use Rattle.engine.proofs.outputs.change.Given as goal
 
 abbrev pub invariant-loop-k : goal.invariant-loop-k

@@ -1,5 +1,5 @@
 -- `engine::outputs::with_effect` meets its contract.
-use Rattle.std.proofs.Common.{sym, rules}
+use Rattle.std.proofs.Common.{sym}
 use Rattle.laws.proofs.Matches.{via}
 use Rattle.engine.specs.internal.Levels.{levels_after}
 use Rattle.engine.proofs.ByLevels.{levels_kept}

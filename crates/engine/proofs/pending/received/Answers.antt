@@ -1,5 +1,5 @@
 -- `engine::pending::received` meets its contract.
-use Rattle.std.proofs.Common.{◌≡◌, ℕ, ◌/◌, ◌%◌, ◌^◌, Bool, cond, eqb, List, [], ◌∷◌, length, get_or, sym, refl, ap, ◌∙◌, ap₂, arith, rules}
+use Rattle.std.proofs.Common.{◌≡◌, ℕ, ◌/◌, ◌%◌, ◌^◌, Bool, cond, eqb, [], ◌∷◌, length, get_or, sym, refl, ap, ◌∙◌, ap₂, arith, rules}
 use lib.Bits.{bit_or}
 use Rattle.machine.specs.declared.Engine.{Engine}
 use Rattle.machine.specs.Parts.{bit, each, with_pending}
@@ -18,7 +18,7 @@ receives-bit i x j b named e h p q = h ∙ ap₂ (λ (v : Bool) (y : ℕ). cond 
 pub returns : goal.returns
 returns c counts l =
     let a = c.args in
-    let k : length a.t1 ≡ 3 = search (rules, unmapped, c.well-formed.0) in
+    let k : length a.cores ≡ 3 = search (rules, unmapped, c.well_formed) in
     let z : a.send % 2 ≡ a.send / 1 % 2 = omega arith in
     let b = one_bit a.i (omega arith) in
     ap (engines_from (c.with_bit-one.result ∷ (c.with_bit-two.result ∷ (c.with_bit-three.result ∷ [])))) (three [] counts l)
@@ -26,4 +26,4 @@ returns c counts l =
     (receives-bit a.i a.send 0 _ _ _ (c.with_bit-one.ensures (get_or counts 0 [])) b (ap (λ x. eqb x 1) z))
     (receives-bit a.i a.send 1 _ _ _ (c.with_bit-two.ensures (get_or counts 1 [])) b refl)
     (receives-bit a.i a.send 2 _ _ _ (c.with_bit-three.ensures (get_or counts 2 [])) b refl)
-    ∙ sym (ap (each (receives a.i a.send) 0) (from_three _ a.t1 counts k l))
+    ∙ sym (ap (each (receives a.i a.send) 0) (from_three _ a.cores counts k l))

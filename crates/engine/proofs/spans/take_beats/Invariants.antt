@@ -1,25 +1,8 @@
 -- `engine::spans::take_beats` meets its contract.
-use Rattle.std.proofs.Common.{◌≡◌, ℕ, ◌+◌, ◌-◌, ◌<◌, ◌≤◌, Bool, true, false, cond, ◌||◌, leb, List, [], ◌∷◌, length, get_or, set, sym, refl, ap, ◌∙◌, subst, ⊎_elim, true≢false, arith, length-set, rules}
-use Rattle.laws.proofs.Tests.{by_cond}
-use Rattle.word.specs.Profile.{LP5523}
-use Rattle.word.specs.Decode.{decode_of, word_at}
-use Rattle.word.specs.Steps.{step_at, address_at}
-use Rattle.word.specs.declared.Word.{Word}
-use Rattle.word.specs.declared.Word.TheVariants.{Rst}
-use Rattle.machine.specs.declared.Mode.TheVariants.{Disabled}
-use Rattle.machine.specs.declared.Exec.TheVariants.{Hold}
-use Rattle.machine.specs.declared.Progress.TheVariants.{BetweenWords}
-use Rattle.machine.specs.Parts.{pointers}
-use Rattle.machine.proofs.Common.{all_alike}
-use Rattle.engine_core.proofs.Three.{unmapped}
-use Rattle.engine_core.specs.declared.EngineCore.{EngineCore}
-use Rattle.engine.specs.declared.Span.{Span}
-use Rattle.engine.specs.Parts.{Fixed, spanned}
+use Rattle.std.proofs.Common.{◌≡◌, ℕ, ◌+◌, ◌-◌, ◌≤◌, length, get_or}
+use Rattle.engine.specs.Parts.{Fixed}
 use Rattle.engine.specs.Spans.{span_of}
-use Rattle.engine.specs.internal.Fetches.{Decoded}
-use Rattle.engine.proofs.TurnOf.{Acted, lasting, turning, none_received, no_pin}
-use Rattle.engine.proofs.IdleOf.{all_idled}
-use Rattle.engine.proofs.SpanOf.{at, rest, idle_taken, span_quiet, span_done, span_on, turn_taken, beat_done, later_words, all_words}
+use Rattle.engine.proofs.SpanOf.{at, rest}
 use Rattle.engine.proofs.spans.take_beats.Given as goal
 
 abbrev pub invariant-loop-i : goal.invariant-loop-i

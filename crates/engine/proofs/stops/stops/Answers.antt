@@ -1,5 +1,4 @@
 -- `engine::stops::stops` meets its contract.
-use Rattle.std.proofs.Common.{rules}
 use Rattle.machine.specs.Words.{stops}
 use Rattle.engine.proofs.stops.stops.Goals as goal
 

@@ -1,5 +1,4 @@
 -- `engine::table::loads` meets its contract.
-use Rattle.std.proofs.Common.{rules}
 use Rattle.machine.specs.TablePointers.{points}
 use Rattle.engine.proofs.table.loads.Goals as goal
 

@@ -1,5 +1,5 @@
 -- `engine::table::mux_sel` meets its contract.
-use Rattle.std.proofs.Common.{◌-◌, ◌<◌, arith, rules}
+use Rattle.std.proofs.Common.{◌-◌, ◌<◌, arith}
 use Rattle.engine.proofs.Digits.{one_bit}
 use Rattle.engine.proofs.table.mux_sel.Goals as goal
 

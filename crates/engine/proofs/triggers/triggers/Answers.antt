@@ -1,5 +1,5 @@
 -- `engine::triggers::triggers` meets its contract.
-use Rattle.std.proofs.Common.{rules, eq-eqb, ne_eqb}
+use Rattle.std.proofs.Common.{eq-eqb, ne_eqb}
 use Rattle.machine.specs.Triggers.{triggers}
 use Rattle.engine.proofs.triggers.triggers.Goals as goal
 

@@ -1,5 +1,4 @@
 -- `engine::variables::arith` meets its contract.
-use Rattle.std.proofs.Common.{rules}
 use Rattle.engine.proofs.variables.arith.Goals as goal
 
 pub returns : goal.returns

@@ -1,5 +1,4 @@
 -- `engine::variables::arith_var` meets its contract.
-use Rattle.std.proofs.Common.{rules}
 use Rattle.engine.proofs.variables.arith_var.Goals as goal
 
 pub returns : goal.returns

@@ -1,5 +1,5 @@
 -- `engine::variables::assigns` meets its contract.
-use Rattle.std.proofs.Common.{rules, ne_eqb}
+use Rattle.std.proofs.Common.{ne_eqb}
 use Rattle.machine.specs.Variables.{assigns}
 use Rattle.engine.proofs.variables.assigns.Goals as goal
 

@@ -1,5 +1,4 @@
 -- `engine::variables::jump` meets its contract.
-use Rattle.std.proofs.Common.{rules}
 use Rattle.engine.proofs.variables.jump.Goals as goal
 
 pub returns-then-jumps : goal.returns-then-jumps

@@ -1,5 +1,4 @@
 -- `engine::word_end::finish` meets its contract.
-use Rattle.std.proofs.Common.{rules}
 use Rattle.machine.specs.WordEnd.{finish}
 use Rattle.engine.proofs.word_end.finish.Goals as goal
 

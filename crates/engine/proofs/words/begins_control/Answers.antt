@@ -1,14 +1,10 @@
 -- `engine::words::begins_control` meets its contract: each arm knows its case.
-use Rattle.std.proofs.Common.{refl, arith, rules}
+use Rattle.std.proofs.Common.{arith}
 use Rattle.word.specs.Profile.{LP5523}
 use Rattle.machine.specs.Words.{begins}
 use Rattle.laws.proofs.Matches.{via}
-use Rattle.word.proofs.Later.{later, undefined}
+use Rattle.word.proofs.Later.{undefined}
 use Rattle.engine.proofs.words.begins_control.Goals as goal
-
-pub overflow_cast-loops : goal.overflow_cast-loops
-unfolding begins
-overflow_cast-loops c = omega (arith, rw c.in-Branch.is at c.requires.1.0)
 
 pub returns-in-Branch : goal.returns-in-Branch
 unfolding begins
@@ -28,4 +24,4 @@ returns-in-Trigger c d memory = via (begins LP5523 _ _ _ _ _) (c.triggers.ensure
 
 pub returns-in_default : goal.returns-in_default
 unfolding begins
-returns-in_default c d memory = via (begins LP5523 _ _ _ _ _) (c.faults.ensures _) (undefined c.args.word (later 14 18 _ refl c.requires.1.1 c.in_default.in_default-own.keys5))
+returns-in_default c d memory = via (begins LP5523 _ _ _ _ _) (c.faults.ensures _) (undefined c.args.word (omega arith))
