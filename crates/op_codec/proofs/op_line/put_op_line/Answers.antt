@@ -12,23 +12,25 @@ use Rattle.grammar.specs.Values.{list_of}
 use Rattle.op_lines.specs.Values.{op_values}
 use Rattle.op_lines.specs.Lines.{op_line_of}
 use Rattle.op_lines.proofs.Written.{written}
-use Rattle.op_codec.proofs.op_line.put_op_line.Statement.{statement}
-use Rattle.op_codec.proofs.op_line.put_op_line.Tie as tie
+use Rattle.op_codec.proofs.op_line.put_op_line.Goals as goal
 
-pub put_op_line_spec : {M : Type 1} → statement M
+pub decode-requires : goal.decode-requires
 unfolding op_line_of write_line write_parts
-put_op_line_spec =
-    tie.close
-    (tie.spec
-    (λ c κs. search rules)
-    (λ c κs. search rules)
-    (λ c κs. search rules)
-    (search rules)
-    (λ c.
-    let v = c.before.before.before.before in
-    let d = v.before.decode in
+decode-requires c = search rules
+
+pub values_of-v-requires : goal.values_of-v-requires
+unfolding op_line_of write_line write_parts
+values_of-v-requires c = search rules
+
+pub put_line-requires : goal.put_line-requires
+unfolding op_line_of write_line write_parts
+put_line-requires c = search rules
+
+pub returns : goal.returns
+unfolding op_line_of write_line write_parts
+returns c = let d = c.decode in
     put_is
-    (ap (λ (x : Values). write_line LP5523 Op (list_of x)) v.values_of.ensures
+    (ap (λ (x : Values). write_line LP5523 Op (list_of x)) c.values_of-v.ensures
     ∙ ap (join space) (written LP5523 d.result).padded
     ∙ ap (λ (i : Word). write_line LP5523 Op (op_values LP5523 i)) d.ensures)
-    c.before.before.put-line.ensures))
+    c.put_line.ensures
