@@ -1,13 +1,14 @@
 // The numbers of a line. One that can't be read or is too large is said in the output, and 0 stands
 // for it.
-ghost use Rattle.std.specs.Prelude.{◌≤◌};
+ghost use Rattle.std.specs.Prelude.{◌≤◌, IfOk};
 
 use crate::names::is_name;
 use crate::print;
+use std::io;
 use text::SPACE;
 use text_bytes::{after_part, part_at};
 
-#[derive(Drop)]
+#[derive(Clone, Copy)]
 pub enum Base {
     Decimal,
     Hex,
@@ -15,7 +16,7 @@ pub enum Base {
     ByLength,
 }
 
-#[derive(Drop)]
+#[derive(Clone, Copy)]
 pub struct Numbers {
     pub count: usize,
     pub values: [u32; 40],
@@ -33,7 +34,7 @@ fn is_hex(base: Base, digits: usize) -> bool {
     }
 }
 
-#[derive(Drop)]
+#[derive(Clone, Copy)]
 enum Digit {
     Value(u32),
     Broken,
@@ -60,49 +61,49 @@ fn longer(n: u32, digit: u32, hex: bool) -> u64 {
     n as u64 * 10 + digit as u64
 }
 
-fn refuse() {
-    print::text(b" no such number");
+fn refuse(rt: &impl Print) -> io::Result<()> {
+    print::text(rt, b" no such number")
 }
 
 // The number of digits, letters in capitals.
-pub fn number(digits: &[u8], base: Base) -> u32 {
+pub fn number(rt: &impl Print, digits: &[u8], base: Base) -> io::Result<u32> {
     let hex = is_hex(base, digits.len());
     let mut n: u32 = 0;
     let mut i = 0;
     while i < digits.len() {
         let Digit::Value(digit) = digit_of(digits[i], hex) else {
-            refuse();
-            return 0;
+            refuse(rt)?;
+            return Ok(0);
         };
         let next = longer(n, digit, hex);
         if next > LARGEST {
-            refuse();
-            return 0;
+            refuse(rt)?;
+            return Ok(0);
         }
         n = next as u32;
         i += 1;
     }
-    n
+    Ok(n)
 }
 
 // One number more, where there is one and room for it.
-fn with(mut n: Numbers, digits: &[u8], base: Base) -> Numbers {
+fn with(rt: &impl Print, mut n: Numbers, digits: &[u8], base: Base) -> io::Result<Numbers> {
     let at = n.count;
     if digits.len() == 0 {
-        return n;
+        return Ok(n);
     }
     if at >= 40 {
-        print::text(b" too many numbers");
-        return n;
+        print::text(rt, b" too many numbers")?;
+        return Ok(n);
     }
-    n.values[at] = number(digits, base);
+    n.values[at] = number(rt, digits, base)?;
     n.count = at + 1;
-    n
+    Ok(n)
 }
 
 // The numbers from a place on, up to the next name.
-pub fn read(text: &[u8], from: usize, base: Base) -> Numbers
-    ensures { from ≤ result.end }
+pub fn read(rt: &impl Print, text: &[u8], from: usize, base: Base) -> io::Result<Numbers>
+    ensures { IfOk result (λ n. from ≤ n.end) }
 {
     let mut n = Numbers {
         count: 0,
@@ -115,11 +116,11 @@ pub fn read(text: &[u8], from: usize, base: Base) -> Numbers
         if is_name(part) {
             break;
         }
-        n = with(n, part, base);
+        n = with(rt, n, part, base)?;
         at = after_part(text, at, SPACE);
     }
     n.end = at;
-    n
+    Ok(n)
 }
 
 // The number at a place; 0 if there is none.
@@ -130,27 +131,28 @@ pub fn value(n: Numbers, place: usize) -> u32 {
     n.values[place]
 }
 
-pub fn at_most(n: u32, most: u32) -> u32
-    ensures { result ≤ most }
+pub fn at_most(rt: &impl Print, n: u32, most: u32) -> io::Result<u32>
+    ensures { IfOk result (λ k. k ≤ most) }
 {
     if n > most {
-        refuse();
-        return 0;
+        refuse(rt)?;
+        return Ok(0);
     }
-    n
+    Ok(n)
 }
 
-pub fn byte(n: Numbers, place: usize) -> u8 {
-    at_most(value(n, place), 255) as u8
+pub fn byte(rt: &impl Print, n: Numbers, place: usize) -> io::Result<u8> {
+    Ok(at_most(rt, value(n, place), 255)? as u8)
 }
 
-pub fn wide(n: Numbers, place: usize) -> u16 {
-    at_most(value(n, place), 65535) as u16
+pub fn wide(rt: &impl Print, n: Numbers, place: usize) -> io::Result<u16> {
+    Ok(at_most(rt, value(n, place), 65535)? as u16)
 }
 
 // The decimal number of one part.
-pub fn decimal(part: &[u8], most: u32) -> u32
-    ensures { result ≤ most }
+pub fn decimal(rt: &impl Print, part: &[u8], most: u32) -> io::Result<u32>
+    ensures { IfOk result (λ k. k ≤ most) }
 {
-    at_most(number(part, Base::Decimal), most)
+    let n = number(rt, part, Base::Decimal)?;
+    at_most(rt, n, most)
 }

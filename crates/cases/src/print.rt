@@ -1,6 +1,7 @@
 // Text, and templates with numbers.
 ghost use Rattle.std.specs.Prelude.{◌+◌, ◌<◌, ◌≤◌};
 
+use std::io;
 use text_bytes::{put_byte, put_bytes, put_decimal, until};
 
 // The marks of a template: a decimal number, four hexadecimal digits, two bits.
@@ -10,21 +11,17 @@ pub const HEX: u8 = b'#';
 
 pub const BITS: u8 = b'%';
 
-pub fn text(s: &[u8]) {
-    io::write_all(1, s);
+pub fn text(rt: &impl Print, s: &[u8]) -> io::Result<()> {
+    rt.write_all(s)
 }
 
-pub fn size(n: usize) {
-    io::print_decimal(1, n as u64);
+pub fn size(rt: &impl Print, n: usize) -> io::Result<()> {
+    rt.print(n)
 }
 
 // One of two texts.
-pub fn either(b: bool, yes: &[u8], no: &[u8]) {
-    if b {
-        text(yes);
-    } else {
-        text(no);
-    }
+pub fn either(rt: &impl Print, b: bool, yes: &[u8], no: &[u8]) -> io::Result<()> {
+    if b { text(rt, yes) } else { text(rt, no) }
 }
 
 // The last hexadecimal digit of a number.
@@ -90,8 +87,8 @@ fn put_filled(out: &mut [u8], template: &[u8], numbers: [u32; 4]) -> usize {
 }
 
 // A template has at most four marks, and is short.
-pub fn say(template: &[u8], numbers: [u32; 4]) {
+pub fn say(rt: &impl Print, template: &[u8], numbers: [u32; 4]) -> io::Result<()> {
     let mut out = [0u8; 256];
     let end = put_filled(&mut out, template, numbers);
-    text(until(&out, end));
+    text(rt, until(&out, end))
 }

@@ -2,10 +2,11 @@
 // empty or begins with '#' is no command.
 use crate::pieces::{first, rest};
 use crate::{chips, plans, print, sheets, words};
+use std::io;
 use text::LINE_FEED;
 use text_bytes::{after_part, part_at, place_of, same};
 
-#[derive(Drop)]
+#[derive(Clone, Copy)]
 enum Section {
     Words,
     Plans,
@@ -15,7 +16,7 @@ enum Section {
 }
 
 // What a script changes, beside the bytes of the sheet.
-#[derive(Drop)]
+#[derive(Clone, Copy)]
 struct State {
     section: Section,
     sheets: sheets::State,
@@ -39,49 +40,49 @@ fn is_command(line: &[u8]) -> bool {
     line[0] != b'#'
 }
 
-fn command(s: State, sheet: &mut [u8], line: &[u8]) -> State {
+fn command(rt: &impl Print, s: State, sheet: &mut [u8], line: &[u8]) -> io::Result<State> {
     let section = s.section;
     let sheets = s.sheets;
     let chips = s.chips;
     match section {
-        Section::Words => words::command(line),
-        Section::Plans => plans::command(line),
+        Section::Words => words::command(rt, line)?,
+        Section::Plans => plans::command(rt, line)?,
         Section::Sheets => {
-            return State {
+            return Ok(State {
                 section,
-                sheets: sheets::command(sheets, sheet, line),
+                sheets: sheets::command(rt, sheets, sheet, line)?,
                 chips,
-            };
+            });
         }
         Section::Chips => {
-            return State {
+            return Ok(State {
                 section,
                 sheets,
-                chips: chips::commands(chips, line),
-            };
+                chips: chips::commands(rt, chips, line)?,
+            });
         }
-        Section::Unknown => print::text(b": no such section"),
+        Section::Unknown => print::text(rt, b": no such section")?,
     }
-    s
+    Ok(s)
 }
 
-fn answered(s: State, sheet: &mut [u8], line: &[u8]) -> State {
+fn answered(rt: &impl Print, s: State, sheet: &mut [u8], line: &[u8]) -> io::Result<State> {
     if !is_command(line) {
-        return s;
+        return Ok(s);
     }
     if same(first(line), b"section") {
         let sheets = s.sheets;
         let chips = s.chips;
-        return State {
+        return Ok(State {
             section: section_named(rest(line)),
             sheets,
             chips,
-        };
+        });
     }
-    command(s, sheet, line)
+    command(rt, s, sheet, line)
 }
 
-pub fn play(script: &[u8], sheet: &mut [u8]) {
+pub fn play(rt: &impl Print, script: &[u8], sheet: &mut [u8]) -> io::Result<()> {
     let mut s = State {
         section: Section::Unknown,
         sheets: sheets::NONE_YET,
@@ -90,9 +91,10 @@ pub fn play(script: &[u8], sheet: &mut [u8]) {
     let mut at = 0;
     while at < script.len() {
         let line = part_at(script, at, LINE_FEED);
-        print::text(line);
-        s = answered(s, sheet, line);
-        print::text(b"\n");
+        print::text(rt, line)?;
+        s = answered(rt, s, sheet, line)?;
+        print::text(rt, b"\n")?;
         at = after_part(script, at, LINE_FEED);
     }
+    Ok(())
 }

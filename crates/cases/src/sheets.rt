@@ -11,10 +11,11 @@ use crate::{numbers, print};
 use names::{Command, named};
 use plan::{EnginePlan, Plan};
 use program::{planned, worded};
+use std::io;
 use text_bytes::{put_byte, put_bytes};
 
 // What the commands change, beside the bytes of the sheet.
-#[derive(Drop)]
+#[derive(Clone, Copy)]
 pub struct State {
     // bytes of the sheet, and how many of them `back` keeps
     pub sheet: usize,
@@ -59,20 +60,26 @@ fn put_lines(sheet: &mut [u8], at: usize, count: u32, bytes: &[u8]) -> usize {
 }
 
 // A command that calls the reader or the writer, or shows what they gave.
-fn called(s: State, sheet: &[u8], command: Command, parts: &[u8]) -> State {
+fn called(
+    rt: &impl Print,
+    s: State,
+    sheet: &[u8],
+    command: Command,
+    parts: &[u8],
+) -> io::Result<State> {
     match command {
-        Command::Read => return reading::read(s, sheet),
-        Command::Program => program::print(s),
-        Command::Write => writing::write(s, sheet),
-        Command::Show => writing::show(s),
-        Command::Op => ops::read(parts),
-        Command::Code => ops::write(numbers::decimal(parts, 65535) as u16, s.room),
-        _ => print::text(b": unknown"),
+        Command::Read => return reading::read(rt, s, sheet),
+        Command::Program => program::print(rt, s)?,
+        Command::Write => writing::write(rt, s, sheet)?,
+        Command::Show => writing::show(rt, s)?,
+        Command::Op => ops::read(rt, parts)?,
+        Command::Code => ops::write(rt, numbers::decimal(rt, parts, 65535)? as u16, s.room)?,
+        _ => print::text(rt, b": unknown")?,
     }
-    s
+    Ok(s)
 }
 
-pub fn command(s: State, sheet: &mut [u8], line: &[u8]) -> State {
+pub fn command(rt: &impl Print, s: State, sheet: &mut [u8], line: &[u8]) -> io::Result<State> {
     let parts = rest(line);
     let command = named(first(line));
     let end = s.sheet;
@@ -83,16 +90,25 @@ pub fn command(s: State, sheet: &mut [u8], line: &[u8]) -> State {
         Command::Back => after.sheet = s.kept,
         Command::Line => after.sheet = put_line(sheet, end, parts),
         Command::Lines => {
-            after.sheet = put_lines(sheet, end, numbers::decimal(first(parts), 200), rest(parts));
+            after.sheet = put_lines(
+                sheet,
+                end,
+                numbers::decimal(rt, first(parts), 200)?,
+                rest(parts),
+            );
         }
         Command::Part => after.sheet = put_bytes(sheet, end, parts),
-        Command::Byte => after.sheet = put_byte(sheet, end, numbers::decimal(parts, 255) as u8),
-        Command::Words => after.words = numbers::decimal(parts, 100) as usize,
-        Command::Image => after.length = numbers::decimal(parts, 100) as usize,
-        Command::Room => after.room = numbers::decimal(parts, 8192) as usize,
-        Command::Plan => return planned(s, parts),
-        Command::Word => return worded(s, parts),
-        _ => return called(s, sheet, command, parts),
+        Command::Byte => after.sheet = put_byte(
+            sheet,
+            end,
+            numbers::decimal(rt, parts, 255)? as u8,
+        ),
+        Command::Words => after.words = numbers::decimal(rt, parts, 100)? as usize,
+        Command::Image => after.length = numbers::decimal(rt, parts, 100)? as usize,
+        Command::Room => after.room = numbers::decimal(rt, parts, 8192)? as usize,
+        Command::Plan => return planned(rt, s, parts),
+        Command::Word => return worded(rt, s, parts),
+        _ => return called(rt, s, sheet, command, parts),
     }
-    after
+    Ok(after)
 }

@@ -8,63 +8,62 @@ use crate::pieces::{first, rest};
 use crate::{numbers, print};
 use grammar::{NAMES, Values};
 use op_codec::{values_of, word_of};
+use std::io;
 use text_bytes::{same, until};
 use word::{Coded, Word};
 
 // A word's op and its operands.
-fn print_word(w: Word) {
-    print::text(b": ");
+fn print_word(rt: &impl Print, w: Word) -> io::Result<()> {
+    print::text(rt, b": ")?;
     let v = values_of(w);
     let op = v.a;
     if op >= OPS {
-        print::text(b"undefined");
-        return;
+        return print::text(rt, b"undefined");
     }
-    print::text(op_name(&NAMES, op));
+    print::text(rt, op_name(&NAMES, op))?;
     print::say(
+        rt,
         until(b" $ $ $ $", operands(op) * 2),
         [v.b as u32, v.c as u32, v.d as u32, v.e as u32],
-    );
+    )
 }
 
 // The word's code, or its refusal as document 01 numbers it.
-fn encoded(w: Word) {
+fn encoded(rt: &impl Print, w: Word) -> io::Result<()> {
     match encoder::encode(w) {
-        Coded::Code(code) => print::say(b": #", [code as u32, 0, 0, 0]),
-        Coded::OutsideField => print::text(b": refused 22"),
-        Coded::UndefinedWord => print::text(b": refused 13"),
+        Coded::Code(code) => print::say(rt, b": #", [code as u32, 0, 0, 0]),
+        Coded::OutsideField => print::text(rt, b": refused 22"),
+        Coded::UndefinedWord => print::text(rt, b": refused 13"),
     }
 }
 
 // The word of an op, with its operands in a text.
-fn word_in(op: u16, parts: &[u8]) -> Word {
-    let n = numbers::read(parts, 0, Base::Decimal);
-    word_of(Values {
+fn word_in(rt: &impl Print, op: u16, parts: &[u8]) -> io::Result<Word> {
+    let n = numbers::read(rt, parts, 0, Base::Decimal)?;
+    Ok(word_of(Values {
         a: op,
-        b: numbers::wide(n, 0),
-        c: numbers::wide(n, 1),
-        d: numbers::wide(n, 2),
-        e: numbers::wide(n, 3),
+        b: numbers::wide(rt, n, 0)?,
+        c: numbers::wide(rt, n, 1)?,
+        d: numbers::wide(rt, n, 2)?,
+        e: numbers::wide(rt, n, 3)?,
         f: 0,
         g: 0,
-    })
+    }))
 }
 
-pub fn command(line: &[u8]) {
+pub fn command(rt: &impl Print, line: &[u8]) -> io::Result<()> {
     let name = first(line);
     if !is_name(name) {
-        let code = numbers::at_most(numbers::number(name, Base::Hex), 65535) as u16;
-        print_word(decoder::decode(code));
-        return;
+        let n = numbers::number(rt, name, Base::Hex)?;
+        let code = numbers::at_most(rt, n, 65535)? as u16;
+        return print_word(rt, decoder::decode(code));
     }
     if same(name, b"count") {
-        counts::command(rest(line));
-        return;
+        return counts::command(rt, rest(line));
     }
     let op = op_named(name);
     if op == OPS && !same(name, b"undefined") {
-        print::text(b": unknown");
-        return;
+        return print::text(rt, b": unknown");
     }
-    encoded(word_in(op, rest(line)));
+    encoded(rt, word_in(rt, op, rest(line))?)
 }

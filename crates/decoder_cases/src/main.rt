@@ -1,10 +1,13 @@
 // Decodes every code by both decoders, and counts the codes, those whose words differ, and those that
 // are defined words.
+#![tactic(auto)]
+
 use decoder::is_undefined;
 use grammar::Values;
 use op_codec::values_of;
+use std::io;
 
-#[derive(Drop)]
+#[derive(Clone, Copy)]
 enum Question {
     Any,
     Differs,
@@ -37,14 +40,14 @@ fn count(question: Question) -> u64 {
     n
 }
 
-fn say(name: &[u8], question: Question) {
-    io::write_all(1, name);
-    io::print_decimal(1, count(question));
+fn say(rt: &impl Print, name: &[u8], question: Question) -> io::Result<()> {
+    rt.write_all(name)?;
+    rt.print(count(question))
 }
 
-fn main() {
-    say(b"codes=", Question::Any);
-    say(b" differing=", Question::Differs);
-    say(b" defined=", Question::Defined);
-    io::write_all(1, b"\n");
+fn main(rt: HostRuntime) -> io::Result<()> {
+    say(&rt, b"codes=", Question::Any)?;
+    say(&rt, b" differing=", Question::Differs)?;
+    say(&rt, b" defined=", Question::Defined)?;
+    rt.write_all(b"\n")
 }

@@ -2,7 +2,7 @@
 use crate::numbers::Base;
 use text_bytes::place_of;
 
-#[derive(Drop)]
+#[derive(Clone, Copy)]
 pub enum Call {
     New,
     Load,
@@ -20,7 +20,7 @@ pub enum Call {
     View,
 }
 
-#[derive(Drop)]
+#[derive(Clone, Copy)]
 pub enum View {
     // of each engine; the last is the branch count of a word
     Pc,

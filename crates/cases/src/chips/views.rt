@@ -6,6 +6,7 @@ use super::names::{View, view_named};
 use crate::print;
 use crate::print::{BITS, DECIMAL, HEX};
 use machine::{Chip, Engine, Exec, Mode, Output, Progress};
+use std::io;
 
 fn mode_of(e: Engine) -> u32 {
     let mode = e.mode;
@@ -63,13 +64,14 @@ fn level_of(output: Output) -> u32 {
 }
 
 // D1 to D9, then the GPO.
-fn print_levels(m: Chip) {
-    print::say(b"$", [level_of(m.outputs[0]), 0, 0, 0]);
+fn print_levels(rt: &impl Print, m: Chip) -> io::Result<()> {
+    print::say(rt, b"$", [level_of(m.outputs[0]), 0, 0, 0])?;
     let mut k: usize = 1;
     while k < 10 {
-        print::say(b",$", [level_of(m.outputs[k]), 0, 0, 0]);
+        print::say(rt, b",$", [level_of(m.outputs[k]), 0, 0, 0])?;
         k += 1;
     }
+    Ok(())
 }
 
 // What is seen of the chip.
@@ -95,11 +97,12 @@ fn mark_of(view: View) -> u8 {
 }
 
 // Of engines 1 to 3.
-fn print_engines(m: Chip, view: View, at: usize)
+fn print_engines(rt: &impl Print, m: Chip, view: View, at: usize) -> io::Result<()>
     requires { at < 96 }
 {
     let mark = mark_of(view);
     print::say(
+        rt,
         &[mark, b',', mark, b',', mark],
         [
             of_engine(m.engines[0], view, at),
@@ -107,23 +110,23 @@ fn print_engines(m: Chip, view: View, at: usize)
             of_engine(m.engines[2], view, at),
             0,
         ],
-    );
+    )
 }
 
 // A view's name and what is seen; for a view with a place, the one at this place.
-pub(super) fn shown(m: Chip, name: &[u8], at: usize)
+pub(super) fn shown(rt: &impl Print, m: Chip, name: &[u8], at: usize) -> io::Result<()>
     requires { at < 96 }
 {
     let view = view_named(name);
-    print::text(b" ");
-    print::text(name);
-    print::text(b"=");
+    print::text(rt, b" ")?;
+    print::text(rt, name)?;
+    print::text(rt, b"=")?;
     match view {
         View::C | View::D | View::Page | View::Enabled | View::Word => {
-            print::say(&[mark_of(view)], [of_chip(m, view, at), 0, 0, 0]);
+            print::say(rt, &[mark_of(view)], [of_chip(m, view, at), 0, 0, 0])
         }
-        View::Levels => print_levels(m),
-        View::Unknown => print::text(b"unknown"),
-        _ => print_engines(m, view, at),
+        View::Levels => print_levels(rt, m),
+        View::Unknown => print::text(rt, b"unknown"),
+        _ => print_engines(rt, m, view, at),
     }
 }

@@ -1,7 +1,7 @@
 // The commands, and their names.
 use text_bytes::place_of;
 
-#[derive(Drop)]
+#[derive(Clone, Copy)]
 pub enum Command {
     // the sheet: emptied, kept as it is, cut back to what was kept, or with more bytes at its end
     Sheet,

@@ -2,10 +2,11 @@
 use crate::names::{OPS, op_named};
 use crate::print;
 use op_codec::values_of;
+use std::io;
 use text_bytes::place_of;
 use word::Coded;
 
-#[derive(Drop)]
+#[derive(Clone, Copy)]
 enum Question {
     // a code of this op; OPS is the undefined word's
     Is(u16),
@@ -58,11 +59,10 @@ fn count(question: Question) -> u32 {
     n
 }
 
-pub(super) fn command(name: &[u8]) {
+pub(super) fn command(rt: &impl Print, name: &[u8]) -> io::Result<()> {
     let question = question_named(name);
     if let Question::Unknown = question {
-        print::text(b": unknown");
-        return;
+        return print::text(rt, b": unknown");
     }
-    print::say(b": $", [count(question), 0, 0, 0]);
+    print::say(rt, b": $", [count(question), 0, 0, 0])
 }
