@@ -26,6 +26,7 @@ fn read_single(line: &[u8], key: &[u8]) -> LineRead
 }
 
 // The engine's number in its plan line, where no other is allowed.
+#[tactic(auto, using(crate::proofs::Others::kept_in_one))]
 fn read_engine(part: &[u8], engine: u16) -> Value
     ensures { result ≡ held (engine to engine ∷ []) (read_number 65535 (value_of (ascii "engine") part.now)) }
 {
