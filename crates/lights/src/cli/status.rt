@@ -1,6 +1,6 @@
 // How a command ended, as the exit status gives it.
 
-#[derive(Drop)]
+#[derive(Clone, Copy)]
 pub enum Status {
     Done,
     // something was refused
