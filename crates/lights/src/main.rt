@@ -12,6 +12,7 @@ mod texts;
 use cli::status::Status;
 use std::fs::File;
 use std::io::Write;
+use std::process::ExitCode;
 use std::rt::Files;
 use std::{fs, io};
 
@@ -28,13 +29,18 @@ fn put_status(rt: &impl Files, digit: u8) -> io::Result<()> {
     file.write_all(&[digit])
 }
 
+// What a shell gives as the status of a program that the signal SIGPIPE ends, which a Rattle program ignores.
+const BROKEN_PIPE: u8 = 141;
+
 // The exit status goes to descriptor 3 as a digit, where the script takes it up. Where that isn't open,
 // nothing takes it up.
-fn main(rt: HostRuntime) {
+fn main(rt: HostRuntime) -> ExitCode {
     let digit = match cli::serving::run(&rt) {
         Status::Done => b'0',
         Status::Refused => b'1',
         Status::Failed | Status::Lost => b'2',
+        Status::Unread => return ExitCode::from(BROKEN_PIPE),
     };
     let _ = put_status(&rt, digit);
+    ExitCode::SUCCESS
 }

@@ -28,7 +28,7 @@ fn check_all(rt: &impl Host, source: Source, line: &[u8], count: usize) -> Statu
         let path = until(&bytes, name.length);
         let found = checking::accepted(rt, path, kind, &mut image);
         status = worse(status, tell_of(rt, OUTPUT, path, found.message));
-        if let Status::Lost = status {
+        if let Status::Lost | Status::Unread = status {
             return status;
         }
         k += 1;
@@ -47,7 +47,7 @@ fn decode_all(rt: &(impl Streams + Env), source: Source, line: &[u8], count: usi
     while k < count {
         let argument = arguments::take(rt, source, line, k, &mut bytes);
         status = worse(status, ops::decode(rt, bytes_of(argument, &bytes)));
-        if let Status::Lost = status {
+        if let Status::Lost | Status::Unread = status {
             return status;
         }
         k += 1;

@@ -6,6 +6,8 @@ use super::status::Status;
 use crate::sentences::say::{Message, line_of};
 use crate::sentences::templates;
 use crate::sentences::templates::put_say;
+use std::io;
+use std::io::ErrorKind;
 use text_bytes::{put_byte, until};
 
 // No answer but a sheet or a picture is longer.
@@ -23,17 +25,19 @@ pub const OUTPUT: Stream = Stream::Output;
 pub const ERROR: Stream = Stream::Error;
 
 // By one call, as long as the system takes all the bytes at once.
-fn write_all(rt: &impl Streams, to: Stream, bytes: &[u8]) -> bool {
+fn write_all(rt: &impl Streams, to: Stream, bytes: &[u8]) -> io::Result<()> {
     match to {
-        Stream::Output => rt.write_all(bytes).is_ok(),
-        Stream::Error => rt.write_error(bytes).is_ok(),
+        Stream::Output => rt.write_all(bytes),
+        Stream::Error => rt.write_error(bytes),
     }
 }
 
 // The program stops, and says why on standard error.
 fn lost(rt: &impl Streams, why: &[u8]) -> Status {
-    write_all(rt, ERROR, why);
-    Status::Lost
+    match write_all(rt, ERROR, why) {
+        Err(error) if error.kind() == ErrorKind::BrokenPipe => Status::Unread,
+        _ => Status::Lost,
+    }
 }
 
 // Writes the first n of the lent bytes. The command ends so, unless they are lost.
@@ -44,10 +48,11 @@ pub fn write(rt: &impl Streams, to: Stream, bytes: &[u8], n: usize, status: Stat
             b"lights: an answer is longer than the program can hold\n",
         );
     }
-    if write_all(rt, to, until(bytes, n)) {
-        return status;
+    match write_all(rt, to, until(bytes, n)) {
+        Ok(()) => status,
+        Err(error) if error.kind() == ErrorKind::BrokenPipe => Status::Unread,
+        Err(_) => lost(rt, b"lights: the answer can't be written\n"),
     }
-    lost(rt, b"lights: the answer can't be written\n")
 }
 
 // Writes what a command makes.

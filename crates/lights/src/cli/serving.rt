@@ -111,7 +111,7 @@ fn serve(rt: &impl Host, from: &mut impl Read, start: Talk, buf: &mut [u8]) -> S
         if let Mode::Over = mode {
             return worst;
         }
-        if let Status::Lost = worst {
+        if let Status::Lost | Status::Unread = worst {
             return worst;
         }
         at = input::next(from, buf, at);

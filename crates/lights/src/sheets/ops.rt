@@ -28,7 +28,7 @@ pub fn decode_line(rt: &impl Streams, line: &[u8]) -> Status {
     let mut at: usize = 0;
     while at <= line.len() {
         status = worse(status, decode(rt, part_at(line, at, SPACE)));
-        if let Status::Lost = status {
+        if let Status::Lost | Status::Unread = status {
             return status;
         }
         at = after_part(line, at, SPACE);
