@@ -3,6 +3,7 @@ pub mod arguments;
 pub mod commands;
 pub mod files;
 pub mod help;
+pub mod host;
 pub mod input;
 pub mod names;
 pub mod numbers;

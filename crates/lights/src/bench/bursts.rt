@@ -2,7 +2,7 @@
 use text::{Decimal, SPACE};
 use text_bytes::{after_part, part_at, put_byte, read_decimal};
 
-#[derive(Drop)]
+#[derive(Clone, Copy)]
 pub enum Burst {
     // so many of the lent bytes
     Bytes(usize),

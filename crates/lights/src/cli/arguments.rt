@@ -1,16 +1,17 @@
 // The arguments of a command: those that the program was started with, or what stands between the
 // spaces of a line of standard input. They are numbered as a program's are: 1 is the command's name.
 use crate::texts::pieces::nth_place;
+use std::env::{Env, FillError};
 use text::SPACE;
 use text_bytes::{after_part, part_at, put_bytes, until};
 
-#[derive(Drop)]
+#[derive(Clone, Copy)]
 pub enum Source {
     Program,
     Line,
 }
 
-#[derive(Drop)]
+#[derive(Clone, Copy)]
 pub enum Argument {
     // so many of the lent bytes
     Bytes(usize),
@@ -20,16 +21,13 @@ pub enum Argument {
 }
 
 // Argument k, into lent bytes. An empty line has none.
-pub fn take(source: Source, line: &[u8], k: usize, into: &mut [u8]) -> Argument {
+pub fn take(rt: &impl Env, source: Source, line: &[u8], k: usize, into: &mut [u8]) -> Argument {
     if let Source::Program = source {
-        if k >= os::arg_count() {
-            return Argument::Missing;
-        }
-        let n = os::arg(k, into);
-        if os::errno() == 0 {
-            return Argument::Bytes(n);
-        }
-        return Argument::TooLong;
+        return match rt.arg(k, into) {
+            Ok(n) => Argument::Bytes(n),
+            Err(FillError::TooLong) => Argument::TooLong,
+            Err(FillError::NotPresent) => Argument::Missing,
+        };
     }
     if k == 0 {
         return Argument::Missing;
@@ -54,10 +52,21 @@ pub fn bytes_of(argument: Argument, bytes: &[u8]) -> &[u8] {
     }
 }
 
+// How many arguments the program was started with, its own name among them.
+fn count_all(rt: &impl Env) -> usize {
+    let mut no_bytes: [u8; 0] = [];
+    for k in 0..usize::MAX {
+        if let Err(FillError::NotPresent) = rt.arg(k, &mut no_bytes) {
+            return k;
+        }
+    }
+    usize::MAX
+}
+
 // One more than the number of the last argument.
-pub fn count(source: Source, line: &[u8]) -> usize {
+pub fn count(rt: &impl Env, source: Source, line: &[u8]) -> usize {
     if let Source::Program = source {
-        return os::arg_count();
+        return count_all(rt);
     }
     if line.len() == 0 {
         return 1;

@@ -1,5 +1,7 @@
 // The commands.
 use super::arguments::{Argument, Source, bytes_of};
+use super::files::LARGE;
+use super::host::{Host, Streams};
 use super::names::{Kind, LONGEST};
 use super::numbers::{Number, TOO_MANY, read_number};
 use super::output::{ERROR, OUTPUT, misread, tell_of, tell_only, wrong};
@@ -9,23 +11,24 @@ use super::{arguments, help, names};
 use crate::sentences::templates;
 use crate::sheets::reading::Program;
 use crate::sheets::{checking, images, loading, ops, reading, runs};
+use std::env::Env;
 use text_bytes::{from, put_byte, put_bytes, until};
 use word::WORDS;
 
 // check SHEET..: standard input is read once.
-fn check_all(source: Source, line: &[u8], count: usize) -> Status {
+fn check_all(rt: &impl Host, source: Source, line: &[u8], count: usize) -> Status {
     let mut bytes = [0u8; LONGEST];
     let mut image = [0u16; WORDS];
     let mut status = Status::Done;
     let mut dash = Kind::Input;
     let mut k: usize = 2;
     while k < count {
-        let name = names::take(source, line, k, dash, &mut bytes);
+        let name = names::take(rt, source, line, k, dash, &mut bytes);
         let kind = name.kind;
         let path = until(&bytes, name.length);
-        let found = checking::accepted(path, kind, &mut image);
-        status = worse(status, tell_of(OUTPUT, path, found.message));
-        if let Status::Lost = status {
+        let found = checking::accepted(rt, path, kind, &mut image);
+        status = worse(status, tell_of(rt, OUTPUT, path, found.message));
+        if let Status::Lost | Status::Unread = status {
             return status;
         }
         k += 1;
@@ -37,14 +40,14 @@ fn check_all(source: Source, line: &[u8], count: usize) -> Status {
 }
 
 // decode WORD..
-fn decode_all(source: Source, line: &[u8], count: usize) -> Status {
+fn decode_all(rt: &(impl Streams + Env), source: Source, line: &[u8], count: usize) -> Status {
     let mut bytes = [0u8; 8];
     let mut status = Status::Done;
     let mut k: usize = 2;
     while k < count {
-        let argument = arguments::take(source, line, k, &mut bytes);
-        status = worse(status, ops::decode(bytes_of(argument, &bytes)));
-        if let Status::Lost = status {
+        let argument = arguments::take(rt, source, line, k, &mut bytes);
+        status = worse(status, ops::decode(rt, bytes_of(argument, &bytes)));
+        if let Status::Lost | Status::Unread = status {
             return status;
         }
         k += 1;
@@ -53,28 +56,28 @@ fn decode_all(source: Source, line: &[u8], count: usize) -> Status {
 }
 
 // encode op=.. ..: the arguments as one op line.
-fn encode_all(source: Source, line: &[u8], count: usize) -> Status {
-    let mut bytes = io::large_buffer();
-    let mut joined = io::large_buffer();
+fn encode_all(rt: &(impl Streams + Env), source: Source, line: &[u8], count: usize) -> Status {
+    let mut bytes = [0u8; LARGE];
+    let mut joined = [0u8; LARGE];
     let mut n: usize = 0;
     let mut k: usize = 2;
     while k < count {
-        let argument = arguments::take(source, line, k, &mut bytes);
+        let argument = arguments::take(rt, source, line, k, &mut bytes);
         n = put_byte(&mut joined, n, b' ');
         n = put_bytes(&mut joined, n, bytes_of(argument, &bytes));
         k += 1;
     }
     if n > joined.len() {
-        return wrong(templates::LONG_OP_LINE);
+        return wrong(rt, templates::LONG_OP_LINE);
     }
     // without the space before the first argument
-    ops::encode(from(until(&joined, n), 1))
+    ops::encode(rt, from(until(&joined, n), 1))
 }
 
 // Argument k as a number of beats; a picture begins with the first beat where there is none.
-fn take_beats(source: Source, line: &[u8], k: usize) -> Number {
-    let mut bytes = io::large_buffer();
-    match arguments::take(source, line, k, &mut bytes) {
+fn take_beats(rt: &impl Env, source: Source, line: &[u8], k: usize) -> Number {
+    let mut bytes = [0u8; LARGE];
+    match arguments::take(rt, source, line, k, &mut bytes) {
         Argument::Bytes(n) => read_number(until(&bytes, n), TOO_MANY),
         Argument::TooLong => Number::Malformed,
         Argument::Missing => Number::Value(0),
@@ -82,47 +85,54 @@ fn take_beats(source: Source, line: &[u8], k: usize) -> Number {
 }
 
 // run, show or svg: SHEET BEATS [FROM]
-fn view(place: usize, source: Source, line: &[u8], path: &[u8], kind: Kind) -> Status {
-    let one = take_beats(source, line, 3);
-    let two = take_beats(source, line, 4);
+fn view(
+    rt: &impl Host,
+    place: usize,
+    source: Source,
+    line: &[u8],
+    path: &[u8],
+    kind: Kind,
+) -> Status {
+    let one = take_beats(rt, source, line, 3);
+    let two = take_beats(rt, source, line, 4);
     let Number::Value(beats) = one else {
-        return misread(source, templates::NO_BEATS);
+        return misread(rt, source, templates::NO_BEATS);
     };
     let Number::Value(from) = two else {
-        return misread(source, templates::NO_BEATS);
+        return misread(rt, source, templates::NO_BEATS);
     };
-    runs::run(place, path, kind, from, beats)
+    runs::run(rt, place, path, kind, from, beats)
 }
 
 // bench SHEET: a chip with a sheet's program, its engines held. Standard input has the bench's commands.
-fn bench(source: Source, line: &[u8]) -> Talk {
+fn bench(rt: &impl Host, source: Source, line: &[u8]) -> Talk {
     let mut bytes = [0u8; LONGEST];
     let mut image = [0u16; WORDS];
-    let name = names::take(source, line, 2, Kind::Taken, &mut bytes);
+    let name = names::take(rt, source, line, 2, Kind::Taken, &mut bytes);
     let kind = name.kind;
     let path = until(&bytes, name.length);
-    let found = checking::accepted(path, kind, &mut image);
+    let found = checking::accepted(rt, path, kind, &mut image);
     let program = found.program;
     let Program::Plan(plan) = program else {
-        return ended(source, tell_of(ERROR, path, found.message));
+        return ended(source, tell_of(rt, ERROR, path, found.message));
     };
     Talk {
         mode: Mode::Bench,
-        chip: loading::loaded(plan, &image),
+        chip: loading::loaded(rt, plan, &image),
         status: Status::Done,
     }
 }
 
 // A command about the file that its first argument names.
-fn about_file(place: usize, source: Source, line: &[u8]) -> Status {
+fn about_file(rt: &impl Host, place: usize, source: Source, line: &[u8]) -> Status {
     let mut bytes = [0u8; LONGEST];
-    let name = names::take(source, line, 2, Kind::Input, &mut bytes);
+    let name = names::take(rt, source, line, 2, Kind::Input, &mut bytes);
     let kind = name.kind;
     let path = until(&bytes, name.length);
     match place {
-        help::IMAGE => reading::image(path, kind),
-        help::SHEET => images::sheet(source, line, path, kind),
-        _ => view(place, source, line, path, kind),
+        help::IMAGE => reading::image(rt, path, kind),
+        help::SHEET => images::sheet(rt, source, line, path, kind),
+        _ => view(rt, place, source, line, path, kind),
     }
 }
 
@@ -136,7 +146,7 @@ fn lines(mode: Mode) -> Talk {
 }
 
 // A command without arguments.
-fn without(place: usize, source: Source) -> Talk {
+fn without(rt: &impl Streams, place: usize, source: Source) -> Talk {
     match place {
         help::DECODE => lines(Mode::Decode),
         help::ENCODE => lines(Mode::Encode),
@@ -144,45 +154,45 @@ fn without(place: usize, source: Source) -> Talk {
         // not among such lines
         help::SEVERAL => match source {
             Source::Program => lines(Mode::Commands),
-            Source::Line => ended(source, wrong(templates::COMMANDS_ALREADY)),
+            Source::Line => ended(source, wrong(rt, templates::COMMANDS_ALREADY)),
         },
-        help::VERSION => ended(source, tell_only(templates::VERSION)),
-        _ => ended(source, help::full()),
+        help::VERSION => ended(source, tell_only(rt, templates::VERSION)),
+        _ => ended(source, help::full(rt)),
     }
 }
 
 // A command by its name.
-fn by_name(source: Source, line: &[u8], name: &[u8]) -> Talk {
+fn by_name(rt: &impl Host, source: Source, line: &[u8], name: &[u8]) -> Talk {
     let place = help::place_of(name);
     if place >= help::COMMANDS {
-        return ended(source, help::unknown(source, name));
+        return ended(source, help::unknown(rt, source, name));
     }
-    let count = arguments::count(source, line);
+    let count = arguments::count(rt, source, line);
     if count < help::LEAST[place] || count > help::MOST[place] {
-        return ended(source, help::misused(source, place));
+        return ended(source, help::misused(rt, source, place));
     }
     if count == 2 {
-        return without(place, source);
+        return without(rt, place, source);
     }
     if place == help::BENCH {
-        return bench(source, line);
+        return bench(rt, source, line);
     }
     let status = match place {
-        help::CHECK => check_all(source, line, count),
-        help::DECODE => decode_all(source, line, count),
-        help::ENCODE => encode_all(source, line, count),
-        help::HELP => help::about(source, line),
-        _ => about_file(place, source, line),
+        help::CHECK => check_all(rt, source, line, count),
+        help::DECODE => decode_all(rt, source, line, count),
+        help::ENCODE => encode_all(rt, source, line, count),
+        help::HELP => help::about(rt, source, line),
+        _ => about_file(rt, place, source, line),
     };
     ended(source, status)
 }
 
 // The command that the arguments are. No command's name is too long.
-pub fn command(source: Source, line: &[u8]) -> Talk {
+pub fn command(rt: &impl Host, source: Source, line: &[u8]) -> Talk {
     let mut bytes = [0u8; LONGEST];
-    match arguments::take(source, line, 1, &mut bytes) {
-        Argument::Bytes(n) => by_name(source, line, until(&bytes, n)),
-        Argument::TooLong => ended(source, help::unknown(source, until(&bytes, 40))),
-        Argument::Missing => ended(source, tell_only(templates::BRIEF)),
+    match arguments::take(rt, source, line, 1, &mut bytes) {
+        Argument::Bytes(n) => by_name(rt, source, line, until(&bytes, n)),
+        Argument::TooLong => ended(source, help::unknown(rt, source, until(&bytes, 40))),
+        Argument::Missing => ended(source, tell_only(rt, templates::BRIEF)),
     }
 }

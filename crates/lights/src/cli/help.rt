@@ -3,6 +3,7 @@ ghost use Rattle.std.specs.Prelude.{◌<◌, ◌≤◌};
 
 use super::arguments;
 use super::arguments::{Source, bytes_of};
+use super::host::Streams;
 use super::names::LONGEST;
 use super::output::{ANSWER, channel_of, made, tell_of, write};
 use super::status::Status;
@@ -10,6 +11,7 @@ use crate::sentences::ops::put_ops;
 use crate::sentences::say::line_of;
 use crate::sentences::templates;
 use crate::texts::pieces::nth_place;
+use std::env::Env;
 use text::LINE_FEED;
 use text_bytes::{from, put_bytes, until};
 
@@ -107,7 +109,7 @@ fn put_lines(out: &mut [u8], at: usize, place: usize, count: usize) -> usize
 }
 
 // All commands: how each is written, and what it prints.
-pub fn full() -> Status {
+pub fn full(rt: &impl Streams) -> Status {
     let mut out = [0u8; ANSWER];
     let mut at: usize = 0;
     let mut k: usize = 0;
@@ -115,40 +117,41 @@ pub fn full() -> Status {
         at = put_lines(&mut out, at, k, 2);
         k += 1;
     }
-    made(&out, at)
+    made(rt, &out, at)
 }
 
 // help with the name of a command, or of the ops.
-pub fn about(source: Source, line: &[u8]) -> Status {
+pub fn about(rt: &(impl Streams + Env), source: Source, line: &[u8]) -> Status {
     let mut bytes = [0u8; LONGEST];
     let mut out = [0u8; ANSWER];
-    let argument = arguments::take(source, line, 2, &mut bytes);
+    let argument = arguments::take(rt, source, line, 2, &mut bytes);
     let name = bytes_of(argument, &bytes);
     if text_bytes::same(name, b"ops") {
         let n = put_ops(&mut out);
-        return made(&out, n);
+        return made(rt, &out, n);
     }
     let place = place_of(name);
     if place >= COMMANDS {
-        return unknown(source, name);
+        return unknown(rt, source, name);
     }
     let n = put_lines(&mut out, 0, place, 3);
-    made(&out, n)
+    made(rt, &out, n)
 }
 
 // A wrong number of arguments.
-pub(super) fn misused(source: Source, place: usize) -> Status
+pub(super) fn misused(rt: &impl Streams, source: Source, place: usize) -> Status
     requires { place < 12 }
 {
     let mut out = [0u8; ANSWER];
     let usage = put_bytes(&mut out, 0, b"malformed: usage: ");
     let n = put_lines(&mut out, usage, place, 1);
-    write(channel_of(source), &out, n, Status::Failed)
+    write(rt, channel_of(source), &out, n, Status::Failed)
 }
 
 // No command has this name.
-pub fn unknown(source: Source, name: &[u8]) -> Status {
+pub fn unknown(rt: &impl Streams, source: Source, name: &[u8]) -> Status {
     tell_of(
+        rt,
         channel_of(source),
         name,
         line_of(Status::Failed, templates::MALFORMED, templates::NO_COMMAND),

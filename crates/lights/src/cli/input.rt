@@ -2,12 +2,13 @@
 ghost use Rattle.std.specs.Prelude.{◌≤◌, length, ◌≡◌};
 
 use super::files::read_some;
+use std::io::Read;
 use text::LINE_FEED;
 
 // More lines and more reads than any input has.
 pub const MOST: u64 = 18_446_744_073_709_551_615;
 
-#[derive(Drop)]
+#[derive(Clone, Copy)]
 pub enum Found {
     // the bytes from `at` to `stop` are a line
     Line,
@@ -22,7 +23,7 @@ pub enum Found {
 }
 
 // The bytes from `at` to `end` are read and not yet used.
-#[derive(Drop)]
+#[derive(Clone, Copy)]
 pub struct Input {
     pub at: usize,
     pub stop: usize,
@@ -51,12 +52,23 @@ const BROKEN: Input = Input {
     found: Found::Broken,
 };
 
+// The place of the first line feed among the bytes from `at` to `end`, or `end`.
+fn find_stop(buf: &[u8], at: usize, end: usize) -> usize
+    requires { (at ≤ end) × (end ≤ length buf.now) }
+    ensures { (at ≤ result) × (result ≤ end) }
+{
+    match buf[at..end].iter().position(|b| *b == LINE_FEED) {
+        Some(length) => at + length,
+        None => end,
+    }
+}
+
 // What the bytes from `at` to `end` begin with.
 fn look(buf: &[u8], at: usize, end: usize, over: bool, skipping: bool) -> Input
     requires { (at ≤ end) × (end ≤ length buf.now) }
     ensures { (result.at ≤ result.stop) × (result.stop ≤ result.end) × (result.end ≤ length buf.now) }
 {
-    let stop = bytes::scan::find(buf, at, end, LINE_FEED);
+    let stop = find_stop(buf, at, end);
     if stop == end && !over {
         return Input {
             at,
@@ -100,7 +112,7 @@ fn move_down(buf: &mut [u8], at: usize, end: usize)
 }
 
 // How many bytes are kept at the front, so that there is room for more.
-#[derive(Drop)]
+#[derive(Clone, Copy)]
 struct Kept {
     end: usize,
     skipping: bool,
@@ -139,14 +151,14 @@ fn keep(buf: &mut [u8], input: Input) -> Kept
 }
 
 // One read more.
-fn more(buf: &mut [u8], input: Input) -> Input
+fn more(from: &mut impl Read, buf: &mut [u8], input: Input) -> Input
     requires { (input.at ≤ input.end) × (input.end ≤ length buf.old) }
     ensures at_le_stop { (result.at ≤ result.stop) × (result.stop ≤ result.end) × (result.end ≤ length buf.new) }
     ensures buf_len_unchanged { length buf.new ≡ length buf.old }
 {
     let kept = keep(buf, input);
     let end = kept.end;
-    let got = read_some(libc::STDIN_FILENO, &mut buf[end..]);
+    let got = read_some(from, &mut buf[end..]);
     if got.failed {
         return BROKEN;
     }
@@ -165,7 +177,7 @@ fn after(input: Input) -> usize
 }
 
 // The next line.
-pub(crate) fn next(buf: &mut [u8], before: Input) -> Input
+pub(crate) fn next(from: &mut impl Read, buf: &mut [u8], before: Input) -> Input
     requires { (before.at ≤ before.stop) × (before.stop ≤ before.end) × (before.end ≤ length buf.old) }
     ensures at_le_stop { (result.at ≤ result.stop) × (result.stop ≤ result.end) × (result.end ≤ length buf.new) }
     ensures buf_len_unchanged { length buf.new ≡ length buf.old }
@@ -177,7 +189,7 @@ pub(crate) fn next(buf: &mut [u8], before: Input) -> Input
         let Found::Nothing = found else {
             return input;
         };
-        input = more(buf, input);
+        input = more(from, buf, input);
         left -= 1;
     }
     input

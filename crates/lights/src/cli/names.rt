@@ -1,6 +1,7 @@
 // The names of files, as arguments give them.
 use super::arguments;
 use super::arguments::{Argument, Source};
+use std::env::Env;
 use text_bytes::{put_bytes, same, until};
 
 // The most bytes that a name has.
@@ -9,7 +10,7 @@ pub const LONGEST: usize = 4096;
 // So much of a longer name is printed.
 const SHOWN: usize = 4000;
 
-#[derive(Drop)]
+#[derive(Clone, Copy)]
 pub enum Kind {
     File,
     // `-`: standard input
@@ -24,15 +25,22 @@ pub enum Kind {
 
 // A name has so many of the lent bytes. In place of one that is too long its first bytes and `..` stand
 // there.
-#[derive(Drop)]
+#[derive(Clone, Copy)]
 pub struct Name {
     pub length: usize,
     pub kind: Kind,
 }
 
 // Argument k, which is there, as a name; `dash` is what `-` is among the program's arguments.
-pub fn take(source: Source, line: &[u8], k: usize, dash: Kind, bytes: &mut [u8]) -> Name {
-    let Argument::Bytes(length) = arguments::take(source, line, k, bytes) else {
+pub fn take(
+    rt: &impl Env,
+    source: Source,
+    line: &[u8],
+    k: usize,
+    dash: Kind,
+    bytes: &mut [u8],
+) -> Name {
+    let Argument::Bytes(length) = arguments::take(rt, source, line, k, bytes) else {
         return Name {
             length: put_bytes(bytes, SHOWN, b".."),
             kind: Kind::TooLong,

@@ -6,7 +6,7 @@ use text::Decimal;
 // More beats than a run takes: it refuses them, as it refuses every number above its limit.
 pub const TOO_MANY: u32 = 4_294_967_295;
 
-#[derive(Drop)]
+#[derive(Clone, Copy)]
 pub enum Number {
     Value(u32),
     Malformed,
@@ -22,7 +22,7 @@ pub fn read_number(part: &[u8], greatest: u32) -> Number {
 }
 
 // A word of four hexadecimal digits.
-#[derive(Drop)]
+#[derive(Clone, Copy)]
 pub enum Hex {
     Word(u16),
     Malformed,

@@ -1,5 +1,7 @@
 // Lines of standard input, each answered as it comes: command lines, words, op lines, or the bench's.
 use super::arguments::Source;
+use super::files::LARGE;
+use super::host::{Host, Streams};
 use super::input::Found;
 use super::output::{stopped, wrong};
 use super::status::{Status, worse};
@@ -8,9 +10,10 @@ use crate::bench::answers;
 use crate::sentences::templates;
 use crate::sheets::ops;
 use machine::Chip;
+use std::io::Read;
 
 // What the lines are.
-#[derive(Drop)]
+#[derive(Clone, Copy)]
 pub enum Mode {
     Commands,
     Decode,
@@ -21,7 +24,7 @@ pub enum Mode {
 }
 
 // What the lines are, the bench's chip, and how the last line ended.
-#[derive(Drop)]
+#[derive(Clone, Copy)]
 pub struct Talk {
     pub mode: Mode,
     pub chip: Chip,
@@ -62,38 +65,38 @@ fn quits(mode: Mode, line: &[u8], outer: Source) -> bool {
 }
 
 // `outer`: where the command comes from that asks for these lines.
-fn answered(t: Talk, line: &[u8], outer: Source) -> Talk {
+fn answered(rt: &impl Host, t: Talk, line: &[u8], outer: Source) -> Talk {
     let mode = t.mode;
     let m = t.chip;
     if quits(mode, line, outer) {
         return ended(outer, Status::Done);
     }
     match mode {
-        Mode::Commands => commands::command(Source::Line, line),
-        Mode::Decode => told(t, ops::decode_line(line)),
-        Mode::Encode => told(t, ops::encode(line)),
-        Mode::Bench => answers::answer(m, line),
+        Mode::Commands => commands::command(rt, Source::Line, line),
+        Mode::Decode => told(t, ops::decode_line(rt, line)),
+        Mode::Encode => told(t, ops::encode(rt, line)),
+        Mode::Bench => answers::answer(rt, m, line),
         Mode::Over => t,
     }
 }
 
 // A line, or what stands in its place.
-fn next(t: Talk, found: Found, line: &[u8], outer: Source) -> Talk {
+fn next(rt: &impl Host, t: Talk, found: Found, line: &[u8], outer: Source) -> Talk {
     match found {
-        Found::Line => answered(t, line, outer),
-        Found::TooLong => told(t, wrong(templates::LONG_LINE)),
+        Found::Line => answered(rt, t, line, outer),
+        Found::TooLong => told(t, wrong(rt, templates::LONG_LINE)),
         Found::End => Talk {
             mode: Mode::Over,
             ..t
         },
-        Found::Broken => told(t, stopped(templates::INPUT_BROKEN)),
-        Found::Nothing => told(t, stopped(templates::INPUT_ENDLESS)),
+        Found::Broken => told(t, stopped(rt, templates::INPUT_BROKEN)),
+        Found::Nothing => told(t, stopped(rt, templates::INPUT_ENDLESS)),
     }
 }
 
 // Lines that are answered one by one, to the end of the input or as far as they are wanted. The worst
 // status. The loop has a function of its own, since the compiler then copies the chip less often.
-fn serve(start: Talk, buf: &mut [u8]) -> Status {
+fn serve(rt: &impl Host, from: &mut impl Read, start: Talk, buf: &mut [u8]) -> Status {
     let first = start.mode;
     let outer = match first {
         Mode::Commands => Source::Line,
@@ -108,14 +111,14 @@ fn serve(start: Talk, buf: &mut [u8]) -> Status {
         if let Mode::Over = mode {
             return worst;
         }
-        if let Status::Lost = worst {
+        if let Status::Lost | Status::Unread = worst {
             return worst;
         }
-        at = input::next(buf, at);
+        at = input::next(from, buf, at);
         let found = at.found;
         let begin = at.at;
         let stop = at.stop;
-        t = next(t, found, &buf[begin..stop], outer);
+        t = next(rt, t, found, &buf[begin..stop], outer);
         let status = t.status;
         worst = worse(worst, status);
         left -= 1;
@@ -124,7 +127,8 @@ fn serve(start: Talk, buf: &mut [u8]) -> Status {
 }
 
 // The program's command line, and the lines that it asks for.
-pub fn run() -> Status {
-    let mut buf = io::large_buffer();
-    serve(commands::command(Source::Program, b""), &mut buf)
+pub fn run(rt: &impl Host) -> Status {
+    let mut buf = [0u8; LARGE];
+    let start = commands::command(rt, Source::Program, b"");
+    serve(rt, &mut rt.reader(), start, &mut buf)
 }

@@ -1,6 +1,6 @@
 // How a command ended, as the exit status gives it.
 
-#[derive(Drop)]
+#[derive(Clone, Copy)]
 pub enum Status {
     Done,
     // something was refused
@@ -9,6 +9,8 @@ pub enum Status {
     Failed,
     // output that can't be written, or standard input that can't be read: the program stops
     Lost,
+    // output that nobody reads any more: the program stops and says nothing
+    Unread,
 }
 
 pub fn worse(a: Status, b: Status) -> Status {
@@ -16,12 +18,12 @@ pub fn worse(a: Status, b: Status) -> Status {
         Status::Done => b,
         Status::Refused => match b {
             Status::Done => a,
-            Status::Refused | Status::Failed | Status::Lost => b,
+            Status::Refused | Status::Failed | Status::Lost | Status::Unread => b,
         },
         Status::Failed => match b {
             Status::Done | Status::Refused | Status::Failed => a,
-            Status::Lost => b,
+            Status::Lost | Status::Unread => b,
         },
-        Status::Lost => a,
+        Status::Lost | Status::Unread => a,
     }
 }

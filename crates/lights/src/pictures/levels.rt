@@ -29,7 +29,7 @@ fn added(sums: [u64; 10], outputs: [Output; 10]) -> [u64; 10]
 }
 
 // The chip after the beats of a column, and the sums of its outputs' levels over them.
-#[derive(Drop)]
+#[derive(Clone, Copy)]
 struct Column {
     chip: Chip,
     sums: [u64; 10],

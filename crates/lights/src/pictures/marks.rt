@@ -5,7 +5,7 @@ use super::steps::Step;
 use super::{steps, times};
 
 // Multiples of a step, from the first on.
-#[derive(Drop)]
+#[derive(Clone, Copy)]
 pub struct Marks {
     pub first: u64,
     pub step: u64,

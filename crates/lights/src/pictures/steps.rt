@@ -1,7 +1,7 @@
 // The steps from mark to mark: 1, 2 or 5 times a power of ten of moments.
 ghost use Rattle.std.specs.Prelude.{◌*◌, ◌<◌, ◌≤◌};
 
-#[derive(Drop)]
+#[derive(Clone, Copy)]
 pub struct Step {
     pub size: u64,
     // the power of ten that it is a multiple of

@@ -4,14 +4,14 @@ use crate::sentences::shown::{NO_QUOTE, Quote};
 use crate::sentences::templates;
 
 // A template, and the numbers for its signs in their order.
-#[derive(Drop)]
+#[derive(Clone, Copy)]
 pub struct Say {
     pub template: usize,
     pub numbers: [u32; 8],
 }
 
 // A line: how the command ends that prints it, what stands before its sentence, and the sentence.
-#[derive(Drop)]
+#[derive(Clone, Copy)]
 pub struct Message {
     pub status: Status,
     pub head: Say,

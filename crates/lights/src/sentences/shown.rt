@@ -7,7 +7,7 @@ use text_bytes::{part_at, put_byte, put_bytes, until};
 pub const MOST_QUOTED: usize = 40;
 
 // What is shown of a text of a sheet: so many bytes, with `..` behind them where it is only a beginning.
-#[derive(Drop)]
+#[derive(Clone, Copy)]
 pub struct Quote {
     pub bytes: [u8; 42],
     pub length: usize,
@@ -19,7 +19,7 @@ pub const NO_QUOTE: Quote = Quote {
 };
 
 // How a text is put.
-#[derive(Drop)]
+#[derive(Clone, Copy)]
 pub enum How {
     // control bytes as `?`
     Printable,

@@ -15,14 +15,14 @@ pub const OPS: u32 = KEYWORD_FIRST[0] as u32;
 pub const NUMBER_KINDS: u32 = NUMBERS as u32;
 
 // The entries of a table from one place up to another.
-#[derive(Drop)]
+#[derive(Clone, Copy)]
 pub struct Stretch {
     pub from: u32,
     pub to: u32,
 }
 
 // A pair of a form: the key's place among the names, and the kind of the value.
-#[derive(Drop)]
+#[derive(Clone, Copy)]
 pub struct Pair {
     pub key: u32,
     pub kind: u32,
@@ -30,7 +30,7 @@ pub struct Pair {
 
 // The numbers of a kind: from `low` to `high` or from `also_low` to `also_high`. A kind with one range
 // has it twice.
-#[derive(Drop)]
+#[derive(Clone, Copy)]
 pub struct Ranges {
     pub low: u32,
     pub high: u32,

@@ -8,7 +8,7 @@ use word::{Address, MuxAtOp, WORDS, Word};
 const LAST_ADDRESS: u32 = (WORDS - 1) as u32;
 
 // What the program was made from: a sheet has a line for each word, an image none.
-#[derive(Drop)]
+#[derive(Clone, Copy)]
 pub enum Origin {
     Sheet,
     Image,
@@ -65,7 +65,7 @@ fn head_of(origin: Origin, verdict: Verdict) -> Say {
     }
 }
 
-#[derive(Drop)]
+#[derive(Clone, Copy)]
 struct Range {
     first: u32,
     last: u32,

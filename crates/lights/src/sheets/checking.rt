@@ -7,10 +7,11 @@ use crate::sentences::say::line_of;
 use crate::sentences::templates;
 use crate::sentences::verdicts::{Origin, of_verdict};
 use plan::Verdict;
+use std::rt::Files;
 
 // The program of a file's sheet, where the checker accepts it.
-pub fn accepted(path: &[u8], kind: Kind, image: &mut [u16]) -> Found {
-    let found = reading::read(path, kind, image);
+pub fn accepted(rt: &(impl Files + Input), path: &[u8], kind: Kind, image: &mut [u16]) -> Found {
+    let found = reading::read(rt, path, kind, image);
     let program = found.program;
     let Program::Plan(plan) = program else {
         return found;

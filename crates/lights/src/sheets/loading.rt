@@ -1,6 +1,7 @@
 // A program loaded into a new chip by register writes.
 ghost use Rattle.std.specs.Prelude.{◌≤◌};
 
+use crate::cli::host::Streams;
 use crate::cli::output::stopped;
 use crate::sentences::templates;
 use machine::{Chip, Outcome};
@@ -24,20 +25,20 @@ const ENABLE: u8 = 64;
 const ALL_LOAD: u8 = 21;
 
 // A burst of the loading. No accepted program's is refused; if one is, that is said.
-fn burst(m: Chip, address: u16, bytes: &[u8]) -> Chip {
+fn burst(rt: &impl Streams, m: Chip, address: u16, bytes: &[u8]) -> Chip {
     let written = chip::burst(m, address, bytes);
     let outcome = written.outcome;
     let Outcome::Success = outcome else {
-        stopped(templates::LOADING_REFUSED);
+        stopped(rt, templates::LOADING_REFUSED);
         return written.chip;
     };
     written.chip
 }
 
 // A burst of one byte.
-fn write(m: Chip, address: u16, byte: u8) -> Chip {
+fn write(rt: &impl Streams, m: Chip, address: u16, byte: u8) -> Chip {
     let bytes = [byte];
-    burst(m, address, &bytes)
+    burst(rt, m, address, &bytes)
 }
 
 // The bytes of a page's sixteen words, the high byte of each first.
@@ -55,12 +56,12 @@ fn bytes_of(image: &[u16; WORDS], page: usize) -> [u8; 32]
     bytes
 }
 
-fn with_memory(m: Chip, image: &[u16; WORDS]) -> Chip {
+fn with_memory(rt: &impl Streams, m: Chip, image: &[u16; WORDS]) -> Chip {
     let mut after = m;
     let mut page: u8 = 0;
     while page < 6 {
         let bytes = bytes_of(image, page as usize);
-        after = burst(write(after, PAGE, page), MEMORY, &bytes);
+        after = burst(rt, write(rt, after, PAGE, page), MEMORY, &bytes);
         page += 1;
     }
     after
@@ -101,18 +102,18 @@ fn used(plan: Plan) -> u8
 }
 
 // The program in memory, its engines in run mode and held.
-pub fn loaded(plan: Plan, image: &[u16; WORDS]) -> Chip {
+pub fn loaded(rt: &impl Streams, plan: Plan, image: &[u16; WORDS]) -> Chip {
     let one = plan.engine1;
     let two = plan.engine2;
     let three = plan.engine3;
     let starts = [start_of(one), start_of(two), start_of(three)];
-    let enabled = write(chip::new_chip(), CONTROL, ENABLE);
-    let loading = write(write(enabled, MODES, 0), MODES, ALL_LOAD);
-    let filled = burst(with_memory(loading, image), STARTS, &starts);
-    write(write(filled, MODES, 0), MODES, used(plan))
+    let enabled = write(rt, chip::new_chip(), CONTROL, ENABLE);
+    let loading = write(rt, write(rt, enabled, MODES, 0), MODES, ALL_LOAD);
+    let filled = burst(rt, with_memory(rt, loading, image), STARTS, &starts);
+    write(rt, write(rt, filled, MODES, 0), MODES, used(plan))
 }
 
 // The used engines run free.
-pub fn freed(m: Chip, plan: Plan) -> Chip {
-    write(m, CONTROL, ENABLE + used(plan))
+pub fn freed(rt: &impl Streams, m: Chip, plan: Plan) -> Chip {
+    write(rt, m, CONTROL, ENABLE + used(plan))
 }

@@ -1,4 +1,5 @@
 // decode and encode: words as op lines, and op lines as words.
+use crate::cli::host::Streams;
 use crate::cli::numbers::{Hex, read_hex};
 use crate::cli::output::{ANSWER, OUTPUT, made, tell, tell_only, wrong};
 use crate::cli::status::{Status, worse};
@@ -9,25 +10,25 @@ use text::SPACE;
 use text_bytes::{after_part, part_at, put_byte};
 
 // A word's op line.
-pub fn decode(word: &[u8]) -> Status {
+pub fn decode(rt: &impl Streams, word: &[u8]) -> Status {
     let mut out = [0u8; ANSWER];
     let Hex::Word(code) = read_hex(word) else {
-        return wrong(templates::NO_WORD);
+        return wrong(rt, templates::NO_WORD);
     };
     let WordWritten::Length(end) = op_codec::disassemble_word(code, &mut out) else {
-        return tell_only(templates::UNDEFINED);
+        return tell_only(rt, templates::UNDEFINED);
     };
     let n = put_byte(&mut out, end, b'\n');
-    made(&out, n)
+    made(rt, &out, n)
 }
 
 // The words of a line, one after the other.
-pub fn decode_line(line: &[u8]) -> Status {
+pub fn decode_line(rt: &impl Streams, line: &[u8]) -> Status {
     let mut status = Status::Done;
     let mut at: usize = 0;
     while at <= line.len() {
-        status = worse(status, decode(part_at(line, at, SPACE)));
-        if let Status::Lost = status {
+        status = worse(status, decode(rt, part_at(line, at, SPACE)));
+        if let Status::Lost | Status::Unread = status {
             return status;
         }
         at = after_part(line, at, SPACE);
@@ -36,13 +37,13 @@ pub fn decode_line(line: &[u8]) -> Status {
 }
 
 // An op line's word.
-pub fn encode(line: &[u8]) -> Status {
+pub fn encode(rt: &impl Streams, line: &[u8]) -> Status {
     let mut out = [0u8; ANSWER];
     let read = op_codec::assemble_line(line);
     let WordLine::Code(code) = read else {
-        return tell(OUTPUT, reader::of_op_line(line, read));
+        return tell(rt, OUTPUT, reader::of_op_line(line, read));
     };
     let end = put_hex(&mut out, 0, code);
     let n = put_byte(&mut out, end, b'\n');
-    made(&out, n)
+    made(rt, &out, n)
 }

@@ -4,14 +4,14 @@ use plan::EnginePlan;
 use text_bytes::{from, part_at, same};
 use word::Address;
 
-#[derive(Drop)]
+#[derive(Clone, Copy)]
 pub enum Planned {
     Plan(EnginePlan),
     Malformed,
 }
 
 // Two numbers with a dash between.
-#[derive(Drop)]
+#[derive(Clone, Copy)]
 enum Range {
     From(Address, Address),
     Malformed,

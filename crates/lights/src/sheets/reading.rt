@@ -1,6 +1,7 @@
 // Sheets from files, read.
 use crate::cli::files;
-use crate::cli::files::File;
+use crate::cli::files::{File, LARGE};
+use crate::cli::host::{Host, Streams};
 use crate::cli::names::Kind;
 use crate::cli::output::{ANSWER, ERROR, made, tell_of};
 use crate::cli::status::Status;
@@ -9,17 +10,18 @@ use crate::sentences::say::{Message, line_of};
 use crate::texts::words::put_words;
 use asm::Assembled;
 use plan::Plan;
+use std::rt::Files;
 use text_bytes::until;
 use word::WORDS;
 
-#[derive(Drop)]
+#[derive(Clone, Copy)]
 pub enum Program {
     Plan(Plan),
     Missing,
 }
 
 // A program; or none, and what stands against it.
-#[derive(Drop)]
+#[derive(Clone, Copy)]
 pub struct Found {
     pub program: Program,
     pub message: Message,
@@ -41,9 +43,9 @@ fn assembled(text: &[u8], image: &mut [u16]) -> Found {
 }
 
 // The program of a file's sheet; its words go into the lent image.
-pub fn read(path: &[u8], kind: Kind, image: &mut [u16]) -> Found {
-    let mut buf = io::large_buffer();
-    match files::read(path, kind, &mut buf) {
+pub fn read(rt: &(impl Files + Input), path: &[u8], kind: Kind, image: &mut [u16]) -> Found {
+    let mut buf = [0u8; LARGE];
+    match files::read(rt, path, kind, &mut buf) {
         File::Bytes(n) => assembled(until(&buf, n), image),
         File::Unused(head, sentence) => Found {
             program: Program::Missing,
@@ -53,19 +55,19 @@ pub fn read(path: &[u8], kind: Kind, image: &mut [u16]) -> Found {
 }
 
 // The words of an image, sixteen a line.
-pub fn write_words(words: &[u16]) -> Status {
+pub fn write_words(rt: &impl Streams, words: &[u16]) -> Status {
     let mut out = [0u8; ANSWER];
     let n = put_words(&mut out, 0, words);
-    made(&out, n)
+    made(rt, &out, n)
 }
 
 // image: the words of a file's sheet.
-pub fn image(path: &[u8], kind: Kind) -> Status {
+pub fn image(rt: &impl Host, path: &[u8], kind: Kind) -> Status {
     let mut words = [0u16; WORDS];
-    let found = read(path, kind, &mut words);
+    let found = read(rt, path, kind, &mut words);
     let program = found.program;
     if let Program::Missing = program {
-        return tell_of(ERROR, path, found.message);
+        return tell_of(rt, ERROR, path, found.message);
     }
-    write_words(&words)
+    write_words(rt, &words)
 }

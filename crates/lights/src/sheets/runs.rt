@@ -3,7 +3,9 @@ use super::checking::accepted;
 use super::loading;
 use super::reading::Program;
 use crate::bench::state::put_chip;
+use crate::cli::files::LARGE;
 use crate::cli::help;
+use crate::cli::host::Host;
 use crate::cli::names::Kind;
 use crate::cli::output::{ERROR, made, tell_of};
 use crate::cli::status::Status;
@@ -36,22 +38,23 @@ fn put_view(out: &mut [u8], place: usize, path: &[u8], m: Chip, from: u32, beats
 }
 
 // The command at this place, on a sheet's program whose used engines run free.
-pub fn run(place: usize, path: &[u8], kind: Kind, from: u32, beats: u32) -> Status {
+pub fn run(rt: &impl Host, place: usize, path: &[u8], kind: Kind, from: u32, beats: u32) -> Status {
     let mut image = [0u16; WORDS];
     if from as u64 + beats as u64 > chip::MOST_BEATS as u64 {
         return tell_of(
+            rt,
             ERROR,
             path,
             calls::of_outcome(templates::REFUSED_FILE, Outcome::TooManyBeats),
         );
     }
-    let found = accepted(path, kind, &mut image);
+    let found = accepted(rt, path, kind, &mut image);
     let program = found.program;
     let Program::Plan(plan) = program else {
-        return tell_of(ERROR, path, found.message);
+        return tell_of(rt, ERROR, path, found.message);
     };
-    let m = loading::freed(loading::loaded(plan, &image), plan);
-    let mut out = io::large_buffer();
+    let m = loading::freed(rt, loading::loaded(rt, plan, &image), plan);
+    let mut out = [0u8; LARGE];
     let n = put_view(&mut out, place, path, m, from, beats);
-    made(&out, n)
+    made(rt, &out, n)
 }

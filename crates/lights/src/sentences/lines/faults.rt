@@ -27,14 +27,14 @@ const OTHER_WORD: u8 = 4;
 const YES_OR_NO: u32 = DECISION as u32;
 
 // A rank, and what is said of the pair.
-#[derive(Drop)]
+#[derive(Clone, Copy)]
 pub(super) struct Fault {
     pub rank: u8,
     pub say: Say,
 }
 
 // How a pair is judged: its rank, and the sentence about its value.
-#[derive(Drop)]
+#[derive(Clone, Copy)]
 struct Judged {
     rank: u8,
     template: usize,
