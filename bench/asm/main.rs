@@ -112,7 +112,7 @@ fn time(peer: &mut Peer, name: &str, sheet: &[u8]) -> Result<()> {
 
 fn main() -> Result<()> {
     let sheets = std::env::args().nth(1).and_then(|count| count.parse().ok()).unwrap_or(20_000);
-    let mut peer = Peer::start("target/bin/lights")?;
+    let mut peer = Peer::start("crates/lights/out/lights")?;
     if compare(&mut peer, sheets)? != 0 {
         std::process::exit(1);
     }

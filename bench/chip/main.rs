@@ -129,7 +129,7 @@ fn main() -> Result<()> {
         return Ok(());
     }
     let scripts = arguments.first().and_then(|count| count.parse().ok()).unwrap_or(20_000);
-    let mut peer = Peer::start("target/bin/lights")?;
+    let mut peer = Peer::start("crates/lights/out/lights")?;
     if scripts > 0 && compare(&mut peer, scripts)? != 0 {
         std::process::exit(1);
     }
