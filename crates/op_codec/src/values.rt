@@ -72,6 +72,7 @@ fn mux_move_row(op: MuxMoveOp) -> u16
     }
 }
 
+#[tactic(auto, unfolding(grammar::specs::Values::values_of))]
 fn values(row: u16, a: u16, b: u16, c: u16, d: u16) -> Values
     ensures { result ≡ values_of (row ∷ a ∷ b ∷ c ∷ d ∷ []) }
 {
@@ -87,6 +88,7 @@ fn values(row: u16, a: u16, b: u16, c: u16, d: u16) -> Values
 }
 
 // Words of the mapping table, and those after them in `Word`, counted from 0.
+#[tactic(auto, unfolding(grammar::specs::Values::values_of, op_lines::specs::Values::op_values))]
 fn later_values(word: Word) -> Values
     requires { 10 ≤ tag_of the_type word }
     ensures { result ≡ word_values LP5523 word }
@@ -105,6 +107,7 @@ fn later_values(word: Word) -> Values
 }
 
 // An undefined word's place is past the last operation's.
+#[tactic(auto, unfolding(grammar::specs::Values::values_of, op_lines::specs::Values::op_values))]
 pub fn values_of(word: Word) -> Values
     ensures { result ≡ word_values LP5523 word }
 {

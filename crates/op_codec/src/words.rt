@@ -134,6 +134,7 @@ fn trigger(v: Values) -> Word
 }
 
 // The word of the operation at the first value's place; Undefined where there is none.
+#[tactic(auto, unfolding(grammar::specs::Values::list_of))]
 pub fn word_of(v: Values) -> Word
     ensures { result ≡ word_of LP5523 (list_of v) }
 {

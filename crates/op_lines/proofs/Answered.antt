@@ -5,9 +5,7 @@ use mathlib.Core.List.{List, [], ◌∷◌}
 use mathlib.Core.Path.{◌≡◌, refl, sym, ap, ◌∙◌}
 use native.Mathlib.Omega.{arith}
 use borrow.Author.Tests.{ltb-true}
-use denote.Enum.Declared.{tag_of}
 use lib.Dec.{ltb}
-use types.Run.{OneOf, miss}
 use Rattle.word.specs.Profile.{LP5523}
 use Rattle.word.specs.Answer.{Answer, refusal, answer_of}
 use Rattle.word.specs.Table.{encode_of}
@@ -15,7 +13,6 @@ use Rattle.word.specs.declared.Coded.{Coded}
 use Rattle.word.specs.declared.Coded.TheVariants.{Code, OutsideField, UndefinedWord}
 use Rattle.word.specs.declared.Word.{Word}
 use Rattle.word.specs.declared.Word.TheVariants.{Undefined}
-use Rattle.word.specs.contracts.Coded.{the_type}
 use Rattle.word.proofs.Theorems.{refuses_13}
 use Rattle.grammar.specs.declared.LineKind.TheVariants.{Op}
 use Rattle.grammar.specs.declared.LineRead.TheVariants.{Read, Refused}
@@ -31,11 +28,10 @@ use Rattle.op_lines.specs.Lines.{coded, assemble_line_of}
 -- ---- the encoder
 
 -- a defined word that has no code has an operand outside its field
-pub no_code : (x : Coded) {i : Word} → OneOf (1 ∷ 2 ∷ []) (tag_of the_type x) → answer_of x ≡ encode_of LP5523 i → (i ≡ Undefined → ⊥)
-    → refusal 22 ≡ encode_of LP5523 i
-no_code (Code w) h e u = absurd (miss (1 ∷ 2 ∷ []) 0 tt h)
-no_code OutsideField h e u = e
-no_code UndefinedWord {i} h e u = absurd (u ((refuses_13 LP5523 i).0 (ap (λ (r : Answer). r.number) (sym e))))
+pub no_code : (x : Coded) {i : Word} → ((w : ℕ) → x ≡ Code w → ⊥) → answer_of x ≡ encode_of LP5523 i → (i ≡ Undefined → ⊥) → refusal 22 ≡ encode_of LP5523 i
+no_code (Code w) n e u = absurd (n w refl)
+no_code OutsideField n e u = e
+no_code UndefinedWord {i} n e u = absurd (u ((refuses_13 LP5523 i).0 (ap (λ (r : Answer). r.number) (sym e))))
 
 -- ---- the reader
 

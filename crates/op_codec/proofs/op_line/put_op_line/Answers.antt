@@ -1,6 +1,5 @@
 -- `op_codec::op_line::put_op_line` meets its contract.
 use mathlib.Core.Path.{ap, ◌∙◌}
-use borrow.Author.Rules.{rules}
 use Rattle.text.specs.Bytes.{space, join}
 use Rattle.text.proofs.Puts.{put_is}
 use Rattle.word.specs.Profile.{LP5523}
@@ -13,18 +12,6 @@ use Rattle.op_lines.specs.Values.{op_values}
 use Rattle.op_lines.specs.Lines.{op_line_of}
 use Rattle.op_lines.proofs.Written.{written}
 use Rattle.op_codec.proofs.op_line.put_op_line.Goals as goal
-
-pub decode-requires : goal.decode-requires
-unfolding op_line_of write_line write_parts
-decode-requires c = search rules
-
-pub values_of-v-requires : goal.values_of-v-requires
-unfolding op_line_of write_line write_parts
-values_of-v-requires c = search rules
-
-pub put_line-requires : goal.put_line-requires
-unfolding op_line_of write_line write_parts
-put_line-requires c = search rules
 
 pub returns : goal.returns
 unfolding op_line_of write_line write_parts
