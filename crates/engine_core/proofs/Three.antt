@@ -30,6 +30,6 @@ get_d_any [] i d e h = absurd (omega arith)
 get_d_any (x ∷ xs) zero d e h = refl
 get_d_any (x ∷ xs) (suc i) d e h = get_d_any xs i d e (omega arith)
 
--- the length of a field that is an array of structs, as it is known: `search (needs, unmapped)`
+-- the length of a field that is an array of structs, as it is known: `search (rules, unmapped)`
 pub unmapped : (A B : Type 0) (f : A → B) (xs : List A) (n : ℕ) → length (map f xs) ≡ n → length xs ≡ n
 unmapped A B f xs n h = sym (length-map xs f) ∙ h

@@ -1,4 +1,3 @@
 mod Addresses
 mod Bytes
 mod Holders
-mod Single

@@ -31,6 +31,7 @@ fn all_lowered(engines: [Engine; 3]) -> [Engine; 3]
     [lowered(one), lowered(two), lowered(three)]
 }
 
+#[tactic(auto, unfolding(machine::specs::Interrupts::read_of))]
 pub fn read_interrupts(mut chip: Chip) -> Interrupts
     ensures { result ≡ read_of chip }
 {

@@ -18,6 +18,7 @@ use crate::write::store::store;
 use machine::{Chip, Outcome, WriteResult};
 
 // Refused, the chip is as it was.
+#[tactic(auto, using(crate::proofs::Addresses::exists_at), unfolding(machine::specs::Burst::bytes_written))]
 pub(super) fn write(chip: Chip, address: u16, byte: u8) -> WriteResult
     ensures { write_report_of result ≡ write_report_of (bytes_written LP5523 (record { address = address; byte = byte } ∷ []) chip) }
 {

@@ -34,6 +34,7 @@ fn judge_modes(engines: [Engine; 3], byte: u8) -> Outcome
     Outcome::Success
 }
 
+#[tactic(auto, using(crate::proofs::Holders::held_by_none))]
 fn judge_output(engines: [Engine; 3], k: u16) -> Outcome
     requires { k < 9 }
     ensures { result ≡ cond (eqb (holder LP5523 engines k) 0) Success OutputHeld }

@@ -1,12 +1,9 @@
--- `host::bursts::all_listed` meets its contract: the loop's invariant is that what holds of all holds of the bytes that are left.
-use Prim.Native.Nat.{◌-◌}
+-- The loop's invariant is that what holds of all holds of the bytes that are left.
 use mathlib.Core.Bool.{not}
-use mathlib.Core.Path.{◌≡◌, refl, sym, ap, ◌∙◌}
+use mathlib.Core.Path.{sym, ap, ◌∙◌}
 use native.Mathlib.Omega.{arith}
-use lib.ListN.{length, drop}
 use borrow.Author.Tests.{not-true, not-false}
 use Rattle.word.specs.Profile.{LP5523}
-use Rattle.machine.specs.Burst.{visited, some_unlisted}
 use Rattle.host.proofs.Addresses.{listed_low}
 use Rattle.host.proofs.Bytes.{unlisted_at, listed_at, listed_end}
 use Rattle.host.proofs.bursts.all_listed.Goals as goal

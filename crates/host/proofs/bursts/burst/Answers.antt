@@ -1,6 +1,5 @@
 -- `host::bursts::burst` meets its contract.
 use mathlib.Core.Path.{sym, ap, ◌∙◌}
-use borrow.Author.Rules.{rules}
 use borrow.Author.Tests.{not-true, not-false}
 use Rattle.word.specs.Profile.{LP5523}
 use Rattle.machine.specs.Reports.{write_report_of}

@@ -1,12 +1,8 @@
--- `host::bursts::write_bytes` meets its contract: the loop's invariant is that what all the bytes give is what those left give.
-use Prim.Native.Nat.{◌-◌}
-use mathlib.Core.Path.{◌≡◌, refl, sym, ap, ◌∙◌}
+-- The loop's invariant is that what all the bytes give is what those left give.
+use mathlib.Core.Path.{sym, ap, ◌∙◌}
 use native.Mathlib.Omega.{arith}
-use lib.ListN.{length, drop}
-use borrow.Author.Tests.{not-true, not-false}
 use Rattle.word.specs.Profile.{LP5523}
 use Rattle.machine.specs.Reports.{write_report_of}
-use Rattle.machine.specs.Burst.{visited, bytes_written}
 use Rattle.machine.proofs.Reports.{same_write_report}
 use Rattle.host.proofs.Bytes.{refused_at, stored_at, stored_end, stored_low}
 use Rattle.host.proofs.bursts.write_bytes.Goals as goal

@@ -1,6 +1,5 @@
 -- `host::listed::register_at` meets its contract: each arm knows where the address lies.
 use mathlib.Core.Path.{ap, sym}
-use borrow.Author.Rules.{rules}
 use native.Mathlib.Omega.{arith}
 use Rattle.word.specs.Profile.{LP5523}
 use Rattle.machine.specs.Registers.{register_at}
@@ -33,10 +32,10 @@ pub returns-in-80-to-111 : goal.returns-in-80-to-111
 returns-in-80-to-111 c = memory_at (omega arith) (omega arith)
 
 pub returns-in_default : goal.returns-in_default
-returns-in_default c = none_at c.in_default-1.in_default-1-own.rest (λ h. omega arith) (λ h. omega arith) (λ h. omega arith)
+returns-in_default c = none_at ((((tt, λ e. omega arith), λ e. omega arith), λ e. omega arith), λ e. omega arith) (λ h. omega arith) (λ h. omega arith) (λ h. omega arith)
 
 pub returns-in_default-2 : goal.returns-in_default-2
-returns-in_default-2 c = none_at c.in_default-1.in_default-1-own.rest (λ h. omega arith) (λ h. omega arith) (λ h. omega arith)
+returns-in_default-2 c = none_at ((((tt, λ e. omega arith), λ e. omega arith), λ e. omega arith), λ e. omega arith) (λ h. omega arith) (λ h. omega arith) (λ h. omega arith)
 
 pub returns-in_default-3 : goal.returns-in_default-3
-returns-in_default-3 c = none_at c.in_default-1.in_default-1-own.rest (λ h. omega arith) (λ h. omega arith) (λ h. omega arith)
+returns-in_default-3 c = none_at ((((tt, λ e. omega arith), λ e. omega arith), λ e. omega arith), λ e. omega arith) (λ h. omega arith) (λ h. omega arith) (λ h. omega arith)
