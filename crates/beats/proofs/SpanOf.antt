@@ -13,7 +13,7 @@ use Rattle.machine.specs.declared.Engine.{Engine}
 use Rattle.machine.specs.declared.TurnResult.{TurnResult}
 use Rattle.machine.specs.declared.TickResult.{TickResult}
 use Rattle.machine.specs.declared.RunResult.{RunResult}
-use Rattle.machine.specs.Parts.{engine_at, with_engines}
+use Rattle.machine.specs.Parts.{with_engines}
 use Rattle.machine.specs.Triggers.{pulsed}
 use Rattle.machine.specs.Turn.{acts, turn}
 use Rattle.machine.specs.Tick.{some, stopped, with_pulse, turns, tick}
