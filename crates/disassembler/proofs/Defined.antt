@@ -15,15 +15,21 @@ use Rattle.plan.specs.declared.Plan.{Plan}
 use Rattle.plan.specs.declared.Verdict.{Verdict}
 use Rattle.plan.specs.declared.Verdict.TheVariants.{Accept, WrongLength, InvalidRange, CodeOverlapsTable, UndefinedWord}
 use Rattle.plan.specs.Ranges.{plan_at, code_addresses}
+use Rattle.plan.specs.Verdict.{is_accept}
 use Rattle.word.specs.Decode.{word_at}
 use Rattle.plan.specs.Tests.{holds}
 use Rattle.plan.specs.Check.{engine_numbers, first_failing, check_ranges_of}
 use Rattle.plan.specs.internal.Passes.{or_else}
-use Rattle.plan.proofs.Laws.{scan_refused, scan_passed, scan_end}
+use Rattle.laws.proofs.Tests.{by_test}
+use Rattle.plan.proofs.Laws.{is_accept_lem, scan_refused, scan_passed, scan_end}
 use Rattle.plan.proofs.Passes.{append, three, scanned}
 use Rattle.asm.specs.Writing.{undefined_at, writable_of}
 use Rattle.disassembler.specs.internal.Walks.{defined_from, engine_defined, plan_defined}
 use Rattle.plan.proofs.Order.{one_each}
+
+-- a verdict other than Accept
+pub not_accept : (v : Verdict) → (v ≡ Accept → ⊥) → is_accept v ≡ false
+not_accept v n = by_test (is_accept v) (λ e. absurd (n (is_accept_lem v e))) (λ e. e)
 
 -- the words from a to l: one step of the loop, and its end
 module _ (P : Profile) (i : ℕ) (image : List ℕ) (a l : ℕ) where

@@ -5,8 +5,6 @@ use mathlib.Core.List.{List, [], ◌∷◌, ◌++◌, append_assoc}
 use mathlib.Core.Path.{◌≡◌, refl, sym, ap, ◌∙◌}
 use native.Mathlib.Numerals.{add-one}
 use native.Mathlib.Omega.{arith}
-use types.Run.{OneOf, miss}
-use denote.Enum.Declared.{tag_of}
 use lib.ListN.{length, get_or, drop, drop_of_length-le}
 use lib.Seq.{drop-cons}
 use Rattle.plan.specs.Verdict.{report, report_of, is_accept}
@@ -22,7 +20,6 @@ use Rattle.plan.specs.Tests.{in_code}
 use Rattle.grammar.specs.declared.LineKind.TheVariants.{Op, Row, Spare}
 use Rattle.grammar.specs.declared.LineKind.{LineKind}
 use Rattle.grammar.specs.declared.LineKind.TheVariants as kind
-use Rattle.grammar.specs.contracts.LineKind.{the_type}
 use Rattle.grammar.specs.Form.{continued, write_form}
 use Rattle.grammar.specs.Grammar.{plan_form, word_form, write_parts, write_line}
 use Rattle.grammar.specs.Values.{values_of, list_of}
@@ -43,13 +40,13 @@ plan_line i (CodeOnly f l) = refl
 plan_line i (CodeAndTable f l t b) = refl
 
 -- nor those past a word
-pub plain_line : (k : LineKind) (w : ℕ) → OneOf (1 ∷ 2 ∷ 3 ∷ []) (tag_of the_type k) → IsWordLine k
+pub plain_line : (k : LineKind) (w : ℕ) → (k ≡ kind.Op → ⊥) → IsWordLine k
     → write_line LP5523 k (w ∷ 0 ∷ 0 ∷ 0 ∷ 0 ∷ 0 ∷ 0 ∷ []) ≡ word_line LP5523 k w
 unfolding write_line write_parts write_form continued word_form
-plain_line kind.Op w h is = absurd (miss (1 ∷ 2 ∷ 3 ∷ []) 0 tt h)
-plain_line (kind.Plan i) w h is = absurd is
-plain_line kind.Row w h is = refl
-plain_line kind.Spare w h is = refl
+plain_line kind.Op w n is = absurd (n refl)
+plain_line (kind.Plan i) w n is = absurd is
+plain_line kind.Row w n is = refl
+plain_line kind.Spare w n is = refl
 
 -- at each address stands a word
 pub word_at : (P : Profile) (p : Plan) (a : ℕ) → IsWordLine (line_kind_at P p a)

@@ -12,6 +12,7 @@ use grammar::{LineKind, Values};
 use plan::EnginePlan;
 use text::LINE_FEED;
 
+#[tactic(auto, unfolding(grammar::specs::Values::values_of))]
 fn seven(a: u16, b: u16, c: u16, d: u16, e: u16, f: u16, g: u16) -> Values
     ensures { result ≡ values_of (a ∷ b ∷ c ∷ d ∷ e ∷ f ∷ g ∷ []) }
 {
