@@ -1,6 +1,5 @@
 -- `disassembler::disassembler::check_writable` meets its contract: the order of 01 is the order of the calls.
 use mathlib.Core.Path.{sym, ap, ◌∙◌}
-use borrow.Author.Rules.{rules}
 use Rattle.plan.specs.Verdict.{is_accept}
 use Rattle.plan.proofs.Laws.{stops, goes_on_lem}
 use Rattle.plan.proofs.Reports.{ranges_answer}

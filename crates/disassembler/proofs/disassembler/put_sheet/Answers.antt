@@ -1,6 +1,5 @@
 -- `disassembler::disassembler::put_sheet` meets its contract.
 use native.Mathlib.Omega.{arith}
-use borrow.Author.Rules.{rules}
 use Rattle.text.proofs.Puts.{put_append, put_is, put_length}
 use Rattle.disassembler.proofs.SheetText.{sheet_text}
 use Rattle.disassembler.proofs.disassembler.put_sheet.Goals as goal

@@ -1,6 +1,5 @@
 -- `disassembler::undefined::check_defined` meets its contract.
 use mathlib.Core.Path.{ap}
-use borrow.Author.Rules.{rules}
 use Rattle.plan.specs.Verdict.{is_accept}
 use Rattle.plan.proofs.Laws.{stops, goes_on_lem}
 use Rattle.disassembler.specs.internal.Walks.{plan_defined}
