@@ -5,7 +5,8 @@ use Rattle.disassembler.proofs.SheetText.{sheet_text}
 use Rattle.disassembler.proofs.disassembler.put_sheet.Goals as goal
 
 pub returns : goal.returns
-returns c = let a = c.args in
+returns c =
+    let a = c.args in
     let p1 = c.put_plan-at2.ensures in
     let p2 = c.put_plan-at3.ensures in
     let p3 = c.put_plan-words.ensures in

@@ -1,4 +1,4 @@
--- `disassembler::undefined::first_undefined` meets its contract: the loop's invariant is that the verdict on all is the verdict on what is left.
+-- The verdict on all is the verdict on what is left.
 use Prim.Native.Nat.{◌+◌, ◌-◌}
 use mathlib.Core.Path.{◌≡◌}
 use Rattle.word.specs.Profile.{LP5523}

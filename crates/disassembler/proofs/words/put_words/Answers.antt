@@ -1,4 +1,4 @@
--- `disassembler::words::put_words` meets its contract. The invariant: of the text of all words, that of the words from k on is left to be written.
+-- `disassembler::words::put_words` meets its contract: each word's line is the next part of the text that is left.
 use Prim.Native.Nat.{◌+◌}
 use mathlib.Core.List.{[], ◌∷◌, ◌++◌}
 use mathlib.Core.Path.{sym, ap, subst}
@@ -19,12 +19,14 @@ pub put_word-next-requires : goal.put_word-next-requires
 put_word-next-requires c = subst IsWordLine (sym c.line_kind_at.ensures) (word_at LP5523 _ _)
 
 pub loop-k-preserved : goal.loop-k-preserved
-loop-k-preserved c = let a = c.args in
+loop-k-preserved c =
+    let a = c.args in
     let w = get_or a.image.now c.loop-k.k 0 in
     so_far_more (word_line LP5523 (line_kind_at LP5523 a.plan c.loop-k.k) w ++ (line_feed ∷ [])) (words_from LP5523 a.plan a.image.now (c.loop-k.k + 1))
     (so_far_is (words_step LP5523 a.plan a.image.now c.loop-k.k (omega arith)) c.loop-k.invariant)
     (put_is (ap (λ (x : LineKind). word_line LP5523 x w ++ (line_feed ∷ [])) c.line_kind_at.ensures) c.put_word-next.ensures)
 
 pub returns : goal.returns
-returns c = let a = c.args in
+returns c =
+    let a = c.args in
     so_far_all (so_far_is (words_end LP5523 a.plan a.image.now c.loop-k.k c.loop-k-test.false) c.loop-k.invariant)

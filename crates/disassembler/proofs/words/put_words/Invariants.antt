@@ -1,4 +1,4 @@
--- `disassembler::words::put_words` meets its contract. The invariant: of the text of all words, that of the words from k on is left to be written.
+-- Of the text of all words, that of the words from k on is left to be written.
 use Prim.Native.Nat.{◌-◌}
 use lib.ListN.{length}
 use Rattle.text.proofs.Puts.{SoFar}
