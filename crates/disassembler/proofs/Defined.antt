@@ -28,8 +28,8 @@ use Rattle.disassembler.specs.internal.Walks.{defined_from, engine_defined, plan
 use Rattle.plan.proofs.Order.{one_each}
 
 -- a verdict other than Accept
-pub not_accept : (v : Verdict) → (v ≡ Accept → ⊥) → is_accept v ≡ false
-not_accept v n = by_test (is_accept v) (λ e. absurd (n (is_accept_lem v e))) (λ e. e)
+pub not_accepted : (v : Verdict) → (v ≡ Accept → ⊥) → is_accept v ≡ false
+not_accepted v n = by_test (is_accept v) (λ e. absurd (n (is_accept_lem v e))) (λ e. e)
 
 -- the words from a to l: one step of the loop, and its end
 module _ (P : Profile) (i : ℕ) (image : List ℕ) (a l : ℕ) where

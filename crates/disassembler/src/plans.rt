@@ -27,6 +27,7 @@ fn seven(a: u16, b: u16, c: u16, d: u16, e: u16, f: u16, g: u16) -> Values
     }
 }
 
+#[tactic(auto, unfolding(grammar::specs::Values::values_of))]
 fn plan_values(engine: u16, q: EnginePlan) -> Values
     ensures { result ≡ values_of (plan_values engine q) }
 {

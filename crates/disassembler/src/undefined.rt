@@ -27,6 +27,7 @@ fn first_undefined(engine: u16, first: u16, last: u16, image: &[u16]) -> Verdict
     Verdict::Accept
 }
 
+#[tactic(auto, unfolding(crate::specs::internal::Walks::engine_defined))]
 fn of_engine(engine: u16, q: EnginePlan, image: &[u16]) -> Verdict
     requires { (length image.now ≡ 96) × (valid_ranges LP5523 q ≡ true) }
     ensures { result ≡ engine_defined LP5523 engine q image.now }

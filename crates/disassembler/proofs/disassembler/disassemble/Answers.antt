@@ -7,7 +7,7 @@ use Rattle.text.proofs.Puts.{put_front}
 use Rattle.word.specs.Profile.{LP5523}
 use Rattle.asm.specs.Writing.{sheet_of, wrote}
 use Rattle.asm.proofs.Writable.{writable_exactly}
-use Rattle.disassembler.proofs.Defined.{not_accept}
+use Rattle.disassembler.proofs.Defined.{not_accepted}
 use Rattle.disassembler.proofs.SheetText.{refused, no_room, with_room}
 use Rattle.disassembler.proofs.disassembler.disassemble.Goals as goal
 
@@ -15,7 +15,7 @@ pub returns-in_default : goal.returns-in_default
 returns-in_default c =
     let a = c.args in
     let v = c.check_writable-verdict in
-    let e = refused LP5523 a.plan a.image.now a.out.now v.ensures (not_accept v.result c.in_default.not-Accept) in
+    let e = refused LP5523 a.plan a.image.now a.out.now v.ensures (not_accepted v.result c.in_default.not-Accept) in
     record { result_value = e.0; out_after = e.1 }
 
 pub put_sheet-n-requires : goal.put_sheet-n-requires

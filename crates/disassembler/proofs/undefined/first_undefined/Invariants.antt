@@ -1,11 +1,8 @@
--- `disassembler::undefined::first_undefined` meets its contract: the loop's invariant is that the verdict on all is the verdict on what is left.
+-- The verdict on all is the verdict on what is left.
 use Prim.Native.Nat.{◌+◌, ◌-◌}
-use mathlib.Core.Path.{◌≡◌, refl, sym, ap, ◌∙◌}
-use native.Mathlib.Omega.{arith}
+use mathlib.Core.Path.{◌≡◌}
 use Rattle.word.specs.Profile.{LP5523}
-use Rattle.word.specs.Classes.{is_undefined}
 use Rattle.disassembler.specs.internal.Walks.{defined_from}
-use Rattle.disassembler.proofs.Defined.{undefined_here, defined_here, defined_to}
 use Rattle.disassembler.proofs.undefined.first_undefined.Given as goal
 
 abbrev pub invariant-loop-a : goal.invariant-loop-a

@@ -1,7 +1,6 @@
 -- `disassembler::words::put_word` meets its contract.
 use mathlib.Core.Path.{sym, ap}
 use native.Mathlib.Omega.{arith}
-use borrow.Author.Rules.{rules}
 use Rattle.text.proofs.Puts.{put_append, put_is}
 use Rattle.word.specs.Profile.{LP5523}
 use Rattle.grammar.specs.declared.LineKind.{LineKind}
@@ -12,7 +11,8 @@ use Rattle.disassembler.proofs.words.put_word.Goals as goal
 
 pub returns-in-Op : goal.returns-in-Op
 unfolding list_of
-returns-in-Op c = let a = c.args in
+returns-in-Op c =
+    let a = c.args in
     put_append (omega arith)
     (put_is (sym (ap (λ (f : LineKind). word_line LP5523 f a.code) c.in-Op.is)) c.put_op_line-end.ensures)
     c.put_byte.ensures

@@ -1,11 +1,11 @@
--- `disassembler::words::put_words` meets its contract. The invariant: of the text of all words, that of the words from k on is left to be written.
-use Prim.Native.Nat.{◌+◌, ◌-◌}
+-- `disassembler::words::put_words` meets its contract: each word's line is the next part of the text that is left.
+use Prim.Native.Nat.{◌+◌}
 use mathlib.Core.List.{[], ◌∷◌, ◌++◌}
 use mathlib.Core.Path.{sym, ap, subst}
 use native.Mathlib.Omega.{arith}
-use lib.ListN.{length, get_or}
+use lib.ListN.{get_or}
 use Rattle.text.specs.Bytes.{line_feed}
-use Rattle.text.proofs.Puts.{put_is, put_length, SoFar, so_far_none, so_far_more, so_far_all}
+use Rattle.text.proofs.Puts.{put_is, so_far_more, so_far_all}
 use Rattle.word.specs.Profile.{LP5523}
 use Rattle.grammar.specs.declared.LineKind.{LineKind}
 use Rattle.line_writer.proofs.Written.{so_far_is}
@@ -15,22 +15,18 @@ use Rattle.disassembler.specs.internal.Walks.{IsWordLine}
 use Rattle.disassembler.proofs.SheetText.{word_at, words_from, words_step, words_end}
 use Rattle.disassembler.proofs.words.put_words.Goals as goal
 
-pub loop-k-init : goal.loop-k-init
-loop-k-init c = so_far_none _ _ _ (omega arith) (omega arith)
-
 pub put_word-next-requires : goal.put_word-next-requires
 put_word-next-requires c = subst IsWordLine (sym c.line_kind_at.ensures) (word_at LP5523 _ _)
 
 pub loop-k-preserved : goal.loop-k-preserved
-loop-k-preserved c = let a = c.args in
+loop-k-preserved c =
+    let a = c.args in
     let w = get_or a.image.now c.loop-k.k 0 in
     so_far_more (word_line LP5523 (line_kind_at LP5523 a.plan c.loop-k.k) w ++ (line_feed ∷ [])) (words_from LP5523 a.plan a.image.now (c.loop-k.k + 1))
     (so_far_is (words_step LP5523 a.plan a.image.now c.loop-k.k (omega arith)) c.loop-k.invariant)
     (put_is (ap (λ (x : LineKind). word_line LP5523 x w ++ (line_feed ∷ [])) c.line_kind_at.ensures) c.put_word-next.ensures)
 
-pub shape_of-out : goal.shape_of-out
-shape_of-out c = put_length c.loop-k.invariant.put
-
 pub returns : goal.returns
-returns c = let a = c.args in
+returns c =
+    let a = c.args in
     so_far_all (so_far_is (words_end LP5523 a.plan a.image.now c.loop-k.k c.loop-k-test.false) c.loop-k.invariant)
