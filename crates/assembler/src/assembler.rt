@@ -116,8 +116,8 @@ fn copy(from: &[u16], to: &mut [u16])
 
 // Reads a sheet into the lent image. A refusal leaves the image as it was.
 pub fn assemble(text: &[u8], image: &mut [u16]) -> Assembled
-    ensures image_after { reading_of result image.new ≡ assemble_of LP5523 (length image.old) text.now }
-    ensures image_after_2 { image.new ≡ image_after (assemble_of LP5523 (length image.old) text.now) image.old }
+    ensures result_value { reading_of result image.new ≡ assemble_of LP5523 (length image.old) text.now }
+    ensures image_after { image.new ≡ image_after (assemble_of LP5523 (length image.old) text.now) image.old }
 {
     if image.len() != WORDS {
         return Assembled::WrongLength;

@@ -15,6 +15,7 @@ use text::LINE_FEED;
 use word::Address;
 
 // An engine's plan, from the values of its plan line.
+#[tactic(auto, unfolding(grammar::specs::Values::list_of))]
 pub fn engine_plan(v: Values) -> EnginePlan
     ensures { result ≡ engine_plan_of (list_of v) }
 {
