@@ -1,12 +1,12 @@
 // A line of the bench, answered.
 use super::bursts::{Burst, read_bytes};
 use super::state::put_chip;
-use crate::cli::host::Streams;
 use crate::cli::numbers::{Number, TOO_MANY, read_number};
 use crate::cli::output;
 use crate::cli::output::{ANSWER, OUTPUT, made, tell};
 use crate::cli::serving::{Mode, Talk};
 use crate::cli::status::Status;
+use crate::cli::system::Streams;
 use crate::sentences::say::{Message, Say, say_only, say_three};
 use crate::sentences::shown::NO_QUOTE;
 use crate::sentences::{calls, templates};

@@ -1,12 +1,12 @@
 // The commands.
 use super::arguments::{Argument, Source, bytes_of};
 use super::files::LARGE;
-use super::host::{Host, Streams};
 use super::names::{Kind, LONGEST};
 use super::numbers::{Number, TOO_MANY, read_number};
 use super::output::{ERROR, OUTPUT, misread, tell_of, tell_only, wrong};
 use super::serving::{Mode, Talk, ended};
 use super::status::{Status, worse};
+use super::system::{Host, Streams};
 use super::{arguments, help, names};
 use crate::sentences::templates;
 use crate::sheets::reading::Program;

@@ -3,10 +3,10 @@ ghost use Rattle.std.specs.Prelude.{◌<◌, ◌≤◌};
 
 use super::arguments;
 use super::arguments::{Source, bytes_of};
-use super::host::Streams;
 use super::names::LONGEST;
 use super::output::{ANSWER, channel_of, made, tell_of, write};
 use super::status::Status;
+use super::system::Streams;
 use crate::sentences::ops::put_ops;
 use crate::sentences::say::line_of;
 use crate::sentences::templates;

@@ -1,8 +1,8 @@
 // Answers: each is made in lent bytes and written by one call, so that the lines of several programs
 // that write to one file never mix.
 use super::arguments::Source;
-use super::host::Streams;
 use super::status::Status;
+use super::system::Streams;
 use crate::sentences::say::{Message, line_of};
 use crate::sentences::templates;
 use crate::sentences::templates::put_say;

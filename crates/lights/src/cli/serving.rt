@@ -1,10 +1,10 @@
 // Lines of standard input, each answered as it comes: command lines, words, op lines, or the bench's.
 use super::arguments::Source;
 use super::files::LARGE;
-use super::host::{Host, Streams};
 use super::input::Found;
 use super::output::{stopped, wrong};
 use super::status::{Status, worse};
+use super::system::{Host, Streams};
 use super::{commands, input};
 use crate::bench::answers;
 use crate::sentences::templates;

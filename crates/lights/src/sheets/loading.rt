@@ -1,8 +1,8 @@
 // A program loaded into a new chip by register writes.
 ghost use Rattle.std.specs.Prelude.{◌≤◌};
 
-use crate::cli::host::Streams;
 use crate::cli::output::stopped;
+use crate::cli::system::Streams;
 use crate::sentences::templates;
 use machine::{Chip, Outcome};
 use plan::{EnginePlan, Plan};

@@ -1,8 +1,8 @@
 // decode and encode: words as op lines, and op lines as words.
-use crate::cli::host::Streams;
 use crate::cli::numbers::{Hex, read_hex};
 use crate::cli::output::{ANSWER, OUTPUT, made, tell, tell_only, wrong};
 use crate::cli::status::{Status, worse};
+use crate::cli::system::Streams;
 use crate::sentences::{reader, templates};
 use crate::texts::words::put_hex;
 use op_lines::{WordLine, WordWritten};

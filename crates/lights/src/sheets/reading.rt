@@ -1,10 +1,10 @@
 // Sheets from files, read.
 use crate::cli::files;
 use crate::cli::files::{File, LARGE};
-use crate::cli::host::{Host, Streams};
 use crate::cli::names::Kind;
 use crate::cli::output::{ANSWER, ERROR, made, tell_of};
 use crate::cli::status::Status;
+use crate::cli::system::{Host, Streams};
 use crate::sentences::reader;
 use crate::sentences::say::{Message, line_of};
 use crate::texts::words::put_words;
