@@ -78,7 +78,7 @@ turn_rules =
     map (λ (x : Exec). words1 1 (chip_at (with_exec x (with_progress (Waiting 1) running)) 0x9D00)) (Hold ∷ SingleStep ∷ Free ∷ Once ∷ []) is (1 ∷ 1 ∷ 1 ∷ 1 ∷ []) ∷
     -- the turn of an engine that doesn't act changes nothing, sends nothing and ends no word
     turn LP5523 1 (chip_at running 0x9D00) is record { chip = chip_at running 0x9D00; send = 0; ended = false } ∷
-    -- mid_word_lem is a wait, a ramp or a trigger in progress: the engine is held, and its word goes on
+    -- mid-word is a wait, a ramp or a trigger in progress: the engine is held, and its word goes on
     engine_from (with_exec Hold (with_progress (Waiting 5) running)) 0x9D00 is with_exec Hold (with_progress (Waiting 4) running) ∷
     engine_from (with_exec Hold (with_progress (Ramping Up 3 2 4) running)) 0x9D00 is with_exec Hold (with_progress (Ramping Up 3 1 4) running) ∷
     engine_from (with_exec Hold (with_progress (Triggering 2 4) running)) 0x9D00 is with_exec Hold (with_progress (Triggering 2 4) running) ∷

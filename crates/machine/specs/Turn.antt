@@ -1,4 +1,4 @@
--- An engine's turn ("An engine acts if in run mode (10) and either mid_word_lem or not held. Not mid_word_lem, it fetches at start+PC; if that
+-- An engine's turn ("An engine acts if in run mode (10) and either mid-word or not held. Not mid-word, it fetches at start+PC; if that
 -- exceeds 95, PC becomes 0 first"; "Its turn is its acting in a beat").
 use Rattle.std.specs.Prelude.{ℕ, ◌+◌, Bool, true, false, not, cond, ◌&&◌, ◌||◌, List, ltb, set}
 use Rattle.word.specs.Profile.{Profile, words_of}

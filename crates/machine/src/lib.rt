@@ -23,7 +23,7 @@ pub enum Exec {
     Once,
 }
 
-// The word in progress, if the engine is mid_word_lem.
+// The word in progress, if the engine is mid-word.
 #[derive(Clone, Copy)]
 pub enum Progress {
     BetweenWords,
