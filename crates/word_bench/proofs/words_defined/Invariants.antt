@@ -1,10 +1,6 @@
 -- `word_bench::words_defined` meets its contract.
-use Prim.Native.Nat.{◌-◌}
 use Rattle.word_bench.proofs.Counted.{Counted}
 use Rattle.word_bench.proofs.words_defined.Given as goal
 
 abbrev pub invariant-loop-i : goal.invariant-loop-i
 invariant-loop-i l = Counted l.codes l.n l.i
-
-abbrev pub decreases-loop-i : goal.decreases-loop-i
-decreases-loop-i l = l.i-end - l.i
