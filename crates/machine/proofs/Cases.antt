@@ -64,7 +64,7 @@ run_rules_hold = (refl, (refl, (refl, (refl, (refl, (refl, (refl, (refl, (refl, 
 
 register_rules_hold : AllHold register_rules
 unfolding register_at holder bytes_written burst_of read_of
-register_rules_hold = (refl, (refl, (refl, (refl, (refl, (refl, (refl, (refl, (refl, (refl, (refl, (refl, (refl, (refl, (refl, (refl, (refl, (refl, (refl, (refl, (refl, (refl, tt))))))))))))))))))))))
+register_rules_hold = (refl, (refl, (refl, (refl, (refl, (refl, (refl, (refl, (refl, (refl, (refl, (refl, (refl, (refl, (refl, (refl, (refl, (refl, (refl, (refl, (refl, (refl, (refl, tt)))))))))))))))))))))))
 
 refusal_rules_hold : AllHold refusal_rules
 unfolding register_at holder bytes_written burst_of

@@ -72,11 +72,13 @@ register_rules =
     written 0x4C (7 ∷ 0 ∷ 95 ∷ []) (three (filled_engine Load) (filled_engine Disabled) (filled_engine Load)) is
     three (with_start (address_at 7) (filled_engine Load)) (with_start (address_at 0) (filled_engine Disabled)) (with_start (address_at 95) (filled_engine Load)) ∷
     written 0x4F (5 ∷ []) (in_modes Run Run Run) is with_page 5 (in_modes Run Run Run) ∷
-    -- "50h..6Fh: 16 words of the page, high byte first": of page 2 the first two words, the first word's low byte alone, and the
-    -- last word's high byte
+    -- "50h..6Fh: 16 words of the page, high byte first": of page 2 the first two words, the first word's low byte alone (over
+    -- another low byte, and over 0), and the last word's high byte
     written 0x50 (0x12 ∷ 0x34 ∷ 0x56 ∷ 0x78 ∷ []) (in_modes Load Run Run) is
     with_memory (set (set (replicate 96 0xABCD) 32 0x1234) 33 0x5678) (in_modes Load Run Run) ∷
     written 0x51 (0x34 ∷ []) (in_modes Load Run Run) is with_memory (set (replicate 96 0xABCD) 32 0xAB34) (in_modes Load Run Run) ∷
+    written 0x51 (0x34 ∷ []) (with_memory (replicate 96 0x0100) (in_modes Load Run Run)) is
+    with_memory (set (replicate 96 0x0100) 32 0x0134) (in_modes Load Run Run) ∷
     written 0x6E (0x12 ∷ []) (in_modes Load Run Run) is with_memory (set (replicate 96 0xABCD) 47 0x12CD) (in_modes Load Run Run) ∷
     -- "A burst is a first address and bytes; the address grows by one after each byte": the page, and two bytes of it
     written 0x4F (1 ∷ 0x12 ∷ 0x34 ∷ []) (in_modes Load Run Run) is with_page 1 (with_memory (set (replicate 96 0xABCD) 16 0x1234) (in_modes Load Run Run)) ∷
