@@ -8,7 +8,7 @@ use Rattle.word.specs.Profile.{Profile, words_of}
 use Rattle.word.specs.Decode.{decode_of}
 use Rattle.plan.specs.declared.EnginePlan.{EnginePlan}
 use Rattle.plan.specs.declared.Plan.{Plan}
-use Rattle.plan.specs.declared.Verdict.TheVariants.{Accept}
+use Rattle.std.proofs.Common.{Ok}
 use Rattle.plan.specs.Conditions.{Defined}
 use Rattle.plan.specs.Verdict.{report_of}
 use Rattle.plan.specs.Check.{check_ranges_of}
@@ -37,7 +37,7 @@ pub record WordsRead (P : Profile) (p : Plan) (n a : ℕ) (ws : List ℕ) (ps : 
   pub all : image ≡ ws ++ rest
   pub count : length rest ≡ n
   pub text : ended (word_lines P p a rest) ≡ join line_feed ps
-  pub ranges : check_ranges_of P p ≡ Accept
+  pub ranges : check_ranges_of P p ≡ Ok tt
   pub codes : Each (DefinedAt P p) a rest
 
 -- What the rest of a plan and an image are where n plans were read from engine i on, after the plans qs, out of the parts ps.
@@ -47,7 +47,7 @@ pub record SheetRead (P : Profile) (n i : ℕ) (qs : List EnginePlan) (ps : List
   pub plans : length rest ≡ n
   pub text : ended (plan_lines P i rest ++ word_lines P p 0 image) ≡ join line_feed ps
   pub count : length image ≡ words_of P
-  pub ranges : check_ranges_of P p ≡ Accept
+  pub ranges : check_ranges_of P p ≡ Ok tt
   pub codes : Each (DefinedAt P p) 0 image
 
 module _ (line_again : LineAgain) (reads_defined : ReadsDefined) (P : Profile) where

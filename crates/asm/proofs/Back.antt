@@ -11,10 +11,9 @@ use Rattle.word.specs.Profile.{Profile, words_of}
 use Rattle.word.specs.Answer.{Answer, success}
 use Rattle.plan.specs.declared.EnginePlan.{EnginePlan}
 use Rattle.plan.specs.declared.Plan.{Plan}
-use Rattle.plan.specs.declared.Verdict.{Verdict}
-use Rattle.plan.specs.declared.Verdict.TheVariants.{Accept}
+use Rattle.std.proofs.Common.{Ok}
 use Rattle.plan.specs.Conditions.{ValidRanges}
-use Rattle.plan.specs.Verdict.{report_of}
+use Rattle.plan.specs.Verdict.{Verdict, report_of}
 use Rattle.plan.specs.Check.{check_ranges_of}
 use Rattle.grammar.specs.declared.LineKind.TheVariants as kind
 use Rattle.grammar.specs.Form.{Reading}
@@ -60,7 +59,7 @@ module _ (P : Profile) (line t : List ℕ) (whole : lacks line_feed line ≡ tru
       ≡ with_values (read_line P (kind.Plan i) line) i (λ ns. read_plans P n (i + 1) (qs ++ (engine_plan_of ns ∷ [])) ps))
       (sym (split_step line_feed t)) refl
 
-module _ (P : Profile) (p : Plan) (ranges : check_ranges_of P p ≡ Accept) where
+module _ (P : Profile) (p : Plan) (ranges : check_ranges_of P p ≡ Ok tt) where
   words_back : (vs : List ℕ) (a l : ℕ) (ws : List ℕ) → Each (BackAt P p) a vs
       → read_words P p (length vs) a l ws (split line_feed (ended (word_lines P p a vs))) ≡ program p (ws ++ vs)
   unfolding read_words ended word_lines split

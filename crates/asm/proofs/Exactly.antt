@@ -20,10 +20,7 @@ use Rattle.asm.proofs.LineNumbers.{number_at, bad_at}
 use Rattle.asm.proofs.Steps.{never}
 use Rattle.asm.proofs.Outcome.{Outcome, bad, miscounted, invalid_range, code_overlaps_table, is_read_lem, sheet_outcome}
 
--- two answers with different numbers, or in different lines
-other_number : {r s t : Sheet} → r ≡ s → r ≡ t → (number_in s ≡ number_in t → ⊥) → ⊥
-other_number e f d = d (ap number_in (sym e ∙ f))
-
+-- two answers in different lines
 other_line : {r s t : Sheet} → r ≡ s → r ≡ t → (line_in s ≡ line_in t → ⊥) → ⊥
 other_line e f d = d (ap line_in (sym e ∙ f))
 
@@ -68,9 +65,9 @@ module _ (P : Profile) (ls : List Line) where
     count_told : Outcome P ls r → r ≡ refused_at 23 0 → GoodTo P ls (line_count P) × (length ls ≡ line_count P → ⊥)
     count_told (bad j m f e) h = absurd (other_line e h (λ z. omega arith))
     count_told (miscounted g d e) h = (g, d)
-    count_told (invalid_range g o e) h = absurd (other_number e h (λ z. omega arith))
-    count_told (code_overlaps_table g o m e) h = absurd (other_number e h (λ z. omega arith))
-    count_told (is_read_lem g o m p ws e) h = absurd (other_number e h (λ z. omega arith))
+    count_told (invalid_range g o e) h = absurd cc
+    count_told (code_overlaps_table g o m e) h = absurd cc
+    count_told (is_read_lem g o m p ws e) h = absurd cc
 
     count_given : Outcome P ls r → GoodTo P ls (line_count P) × (length ls ≡ line_count P → ⊥) → r ≡ refused_at 23 0
     count_given (bad j m f e) h = absurd (spoiled j m f h.0)
@@ -85,10 +82,10 @@ module _ (P : Profile) (ls : List Line) where
 
     invalid_told : Outcome P ls r → r ≡ refused_at 11 0 → Invalid
     invalid_told (bad j m f e) h = absurd (other_line e h (λ z. omega arith))
-    invalid_told (miscounted g d e) h = absurd (other_number e h (λ z. omega arith))
+    invalid_told (miscounted g d e) h = absurd cc
     invalid_told (invalid_range g o e) h = (g, o)
-    invalid_told (code_overlaps_table g o m e) h = absurd (other_number e h (λ z. omega arith))
-    invalid_told (is_read_lem g o m p ws e) h = absurd (other_number e h (λ z. omega arith))
+    invalid_told (code_overlaps_table g o m e) h = absurd cc
+    invalid_told (is_read_lem g o m p ws e) h = absurd cc
 
     invalid_given : Outcome P ls r → Invalid → r ≡ refused_at 11 0
     invalid_given (bad j m f e) h = absurd (spoiled j m f h.0.0)
@@ -103,10 +100,10 @@ module _ (P : Profile) (ls : List Line) where
 
     overlap_told : Outcome P ls r → r ≡ refused_at 12 0 → Overlap
     overlap_told (bad j m f e) h = absurd (other_line e h (λ z. omega arith))
-    overlap_told (miscounted g d e) h = absurd (other_number e h (λ z. omega arith))
-    overlap_told (invalid_range g o e) h = absurd (other_number e h (λ z. omega arith))
+    overlap_told (miscounted g d e) h = absurd cc
+    overlap_told (invalid_range g o e) h = absurd cc
     overlap_told (code_overlaps_table g o m e) h = (g, o, m)
-    overlap_told (is_read_lem g o m p ws e) h = absurd (other_number e h (λ z. omega arith))
+    overlap_told (is_read_lem g o m p ws e) h = absurd cc
 
     overlap_given : Outcome P ls r → Overlap → r ≡ refused_at 12 0
     overlap_given (bad j m f e) h = absurd (spoiled j m f h.0.0)
@@ -121,15 +118,15 @@ module _ (P : Profile) (ls : List Line) where
     others_told n (miscounted g d e) h = inl (ap number_in (sym h ∙ e))
     others_told n (invalid_range g o e) h = inr (inl (ap number_in (sym h ∙ e)))
     others_told n (code_overlaps_table g o m e) h = inr (inr (ap number_in (sym h ∙ e)))
-    others_told n (is_read_lem g o m p ws e) h = absurd (never (sym h ∙ e))
+    others_told n (is_read_lem g o m p ws e) h = absurd cc
 
     -- what is read
     read_told : Outcome P ls r → (p : Plan) (image : List ℕ) → r ≡ program p image
         → GoodLines P ls × AllValid P (plan_said P ls) × AllDisjoint P (plan_said P ls)
-    read_told (bad j m f e) p image h = absurd (never (sym e ∙ h))
-    read_told (miscounted g d e) p image h = absurd (never (sym e ∙ h))
-    read_told (invalid_range g o e) p image h = absurd (never (sym e ∙ h))
-    read_told (code_overlaps_table g o m e) p image h = absurd (never (sym e ∙ h))
+    read_told (bad j m f e) p image h = absurd cc
+    read_told (miscounted g d e) p image h = absurd cc
+    read_told (invalid_range g o e) p image h = absurd cc
+    read_told (code_overlaps_table g o m e) p image h = absurd cc
     read_told (is_read_lem g o m q ws e) p image h = (g, o, m)
 
 -- 9 is judged first: with as many words as the chip has, the answer is the sheet's

@@ -4,7 +4,6 @@ pub mod Writable
 pub mod Fits
 pub mod PlanFits
 pub mod PlanLaws
-pub mod Proper
 pub mod WordLaws
 pub mod Steps
 pub mod Again

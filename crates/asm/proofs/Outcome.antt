@@ -27,7 +27,7 @@ use Rattle.asm.specs.Conditions.{Line, whole, cut, lines_in, lines_of, plan_in, 
 use Rattle.asm.proofs.LineNumbers.{refusal_of, plain_number, number_at}
 use Rattle.asm.proofs.Reached.{drop_none, drop_within, Reached, plan_number, word_number, next, first_bad}
 use Rattle.asm.proofs.Ranges.{Ranged, fine, not_valid, not_disjoint, ranged_cases}
-use Rattle.asm.proofs.Proper.{Proper, line_proper}
+use Rattle.grammar.proofs.Proper.{Proper, line_proper}
 
 -- A first bad line, too few or too many lines, 11, 12, or none of these.
 pub data Outcome (P : Profile) (ls : List Line) (r : Sheet) : Type 0 where

@@ -6,6 +6,7 @@ use mathlib.Core.List.{List, [], ◌∷◌}
 use mathlib.Core.Logic.{⊎_elim}
 use mathlib.Core.Path.{◌≡◌, refl, sym, ap, ◌∙◌}
 use native.Mathlib.Omega.{arith}
+use borrow.Author.Tests.{le-leb}
 use Rattle.text.specs.Bytes.{ascii}
 use Rattle.word.specs.Profile.{Profile, LP5523, words_of, ◌to◌}
 use Rattle.word.specs.Field.{address, inside, ranges_of}
@@ -19,7 +20,6 @@ use Rattle.grammar.specs.Grammar.{asks, ◌within◌, plan_form}
 use Rattle.grammar.specs.Theorems.{fits_form}
 use Rattle.asm.specs.PlanLines.{engine_plan_of, plan_values}
 use Rattle.word.proofs.Fields.{in_upto}
-use Rattle.grammar.proofs.Ranges.{in_one}
 use Rattle.asm.proofs.Fits.{no_values, number_values, number_fits, decision_values, inside_one}
 
 -- the plan that a plan's values stand for is that plan
@@ -88,6 +88,11 @@ module _ (P : Profile) (i : ℕ) where
       ap (λ (xs : List ℕ). plan_values i (engine_plan_of xs)) r.1 ∙ ap (plan_values i) (plan_said_lem i r.0) ∙ sym r.1
 
 -- ---- the values of a plan in order fit
+
+-- a range of one number
+in_one : (i : ℕ) → inside (i to i ∷ []) i ≡ true
+unfolding inside
+in_one i = rw (le-leb i i (omega arith))
 
 address_inside : (P : Profile) (a : Address) → a.0 < words_of P → (a.0 ≤ 65535) × (inside (ranges_of P address) a.0 ≡ true)
 address_inside LP5523 a h = (omega arith, in_upto 95 a.0 (omega arith))

@@ -3,7 +3,6 @@ use Prim.Native.Nat.{ℕ, zero, suc}
 use mathlib.Core.Bool.{Bool, true, false, cond}
 use mathlib.Core.List.{List, [], ◌∷◌}
 use mathlib.Core.Path.{◌≡◌, refl, sym, ap, ◌∙◌}
-use native.Mathlib.Omega.{arith}
 use borrow.Author.Tests.{eqb-true}
 use lib.Dec.{eqb}
 use Rattle.laws.proofs.Tests.{by_test}
@@ -13,9 +12,7 @@ use Rattle.grammar.specs.Form.{Reading, values, refused}
 use Rattle.asm.specs.Reading.{Sheet, program, refused_at, unended, ranged, with_values, with_word}
 
 pub never : {n l : ℕ} {p : Plan} {ws : List ℕ} → refused_at n l ≡ program p ws → ⊥
-never e =
-    let z : ◌≡◌ {A = ℕ} 0 1 = cc in
-    omega arith
+never e = cc
 
 pub never_unended : (line : List ℕ) (l : ℕ) {p : Plan} {ws : List ℕ} → unended line l ≡ program p ws → ⊥
 never_unended [] l e = never e

@@ -29,7 +29,7 @@ use Rattle.asm.specs.Writing.{word_line}
 use Rattle.asm.proofs.Codes.{by_kind}
 use Rattle.word.proofs.Fields.{in_upto}
 use Rattle.asm.proofs.Fits.{no_values, number_values, number_fits}
-use Rattle.asm.proofs.Proper.{Proper, line_proper}
+use Rattle.grammar.proofs.Proper.{Proper, line_proper}
 
 one_value : (k : String) (ns : List ℕ) → fits_form (word_form k) ns ≡ true → get_or ns 0 0 ∷ [] ≡ ns
 unfolding word_form

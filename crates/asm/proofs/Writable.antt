@@ -3,33 +3,31 @@ use Prim.Native.Nat.{ℕ}
 use mathlib.Core.List.{List, [], ◌∷◌, map, ◌++◌}
 use mathlib.Core.Logic.Iff
 use mathlib.Core.Logic.{◌↔◌}
-use mathlib.Core.Path.{◌≡◌, refl, sym, subst}
+use mathlib.Core.Path.{◌≡◌, sym, subst}
 use Rattle.word.specs.Profile.{Profile}
 use Rattle.word.specs.Steps.{address_at}
 use Rattle.plan.specs.declared.EnginePlan.{EnginePlan}
 use Rattle.plan.specs.declared.Plan.{Plan}
-use Rattle.plan.specs.declared.Verdict.{Verdict}
-use Rattle.plan.specs.declared.Verdict.TheVariants.{Accept, InvalidRange, CodeOverlapsTable, UndefinedWord}
-use Rattle.plan.specs.Ranges.{plan_at, InCode, code_addresses}
+use Rattle.std.proofs.Common.{Ok}
+use Rattle.plan.specs.declared.CheckError.{CheckError}
+use Rattle.plan.specs.declared.CheckError.TheVariants.{InvalidRange, CodeOverlapsTable, UndefinedWord}
+use Rattle.plan.specs.Ranges.{plan_at, code_of, InCode, code_addresses}
 use Rattle.word.specs.Decode.{word_at}
 use Rattle.plan.specs.Conditions.{Defined, AllIn, Condition}
 use Rattle.plan.specs.Tests.{holds}
-use Rattle.plan.specs.Check.{engine_numbers, joined, first_failing}
+use Rattle.plan.specs.Check.{engine_numbers, joined}
 use Rattle.plan.specs.Theorems.{AllOf}
-use Rattle.plan.proofs.First.{first_none, first_all}
-use Rattle.plan.proofs.Theorems.{all_met, valid_met, disjoint_met}
+use Rattle.plan.proofs.First.{none_fails}
+use Rattle.plan.proofs.Theorems.{valid_met, disjoint_met}
+use Rattle.plan.proofs.Tests.{tests_exactly}
 use Rattle.plan.proofs.Order.{one_each}
-use Rattle.plan.proofs.Lists.{all_map, all_given, engine_all, met_append, met_joined, over_code}
+use Rattle.plan.proofs.Lists.{all_map, all_given, engine_all, met_append, met_joined, over_some}
 use Rattle.asm.specs.Theorems.{Sound}
 use Rattle.asm.specs.Writing.{undefined_at, objections_to, writable_of}
 
 module _ (P : Profile) (p : Plan) (image : List ℕ) where
-  abbrev Met : List Verdict → Type 0
+  abbrev Met : List CheckError → Type 0
   Met vs = AllOf (Condition P p image) vs
-
-  -- the first failing of a list is none exactly where all conditions are met
-  none_fails : (vs : List Verdict) → (first_failing (holds P p image) vs ≡ Accept) ↔ Met vs
-  none_fails vs = Iff.trans (first_all (holds P p image) refl vs, first_none (holds P p image) vs) (all_met P p image vs)
 
   -- 13, of one engine and of all
   abbrev AllDefined : EnginePlan → Type 0
@@ -37,9 +35,9 @@ module _ (P : Profile) (p : Plan) (image : List ℕ) where
 
   engine_defined_lem : (i : ℕ) → Met (undefined_at p P i) ↔ AllDefined (plan_at P p i)
   engine_defined_lem i =
-      let v : ℕ → Verdict = λ a. UndefinedWord i (address_at a) in
+      let v : ℕ → CheckError = λ a. UndefinedWord i (address_at a) in
       let e = one_each v (code_addresses (plan_at P p i)) in
-      let o = over_code (Condition P p image) (λ a. v a ∷ []) (plan_at P p i) in (
+      let o = over_some (Condition P p image) (λ a. v a ∷ []) (code_of (plan_at P p i)) in (
         λ h a c. (o.0 (subst Met e h) a c).0,
         λ h. subst Met (sym e) (o.1 (λ a c. (h a c, tt))),
       )
@@ -53,13 +51,13 @@ module _ (P : Profile) (p : Plan) (image : List ℕ) where
       each : Met (joined (undefined_at p P) (engine_numbers P)) ↔ AllIn (λ i. Met (undefined_at p P i)) (engine_numbers P)
       each = met_joined (Condition P p image) (undefined_at p P) (engine_numbers P)
 
-  abbrev invalid : List Verdict
+  abbrev invalid : List CheckError
   invalid = map InvalidRange (engine_numbers P)
 
-  abbrev overlapping : List Verdict
+  abbrev overlapping : List CheckError
   overlapping = map CodeOverlapsTable (engine_numbers P)
 
-  abbrev words : List Verdict
+  abbrev words : List CheckError
   words = joined (undefined_at p P) (engine_numbers P)
 
   sound_met : Met (objections_to P p) ↔ Sound P p image
@@ -77,6 +75,6 @@ module _ (P : Profile) (p : Plan) (image : List ℕ) where
     ),
   )
 
-  pub writable_exactly : (writable_of P p image ≡ Accept) ↔ Sound P p image
+  pub writable_exactly : (writable_of P p image ≡ Ok tt) ↔ Sound P p image
   unfolding writable_of
-  writable_exactly = Iff.trans (none_fails (objections_to P p)) sound_met
+  writable_exactly = Iff.trans (none_fails (holds P p image) (Condition P p image) (tests_exactly P p image) (objections_to P p)) sound_met

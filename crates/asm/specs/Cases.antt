@@ -1,18 +1,19 @@
 -- Cases of the answers and of the places of a sheet, each by computation.
-use Rattle.std.specs.Prelude.{ℕ, List, [], ◌∷◌, map, ◌≡◌}
+use Rattle.std.specs.Prelude.{ℕ, List, [], ◌∷◌, Result, Ok, Err, map, ◌≡◌}
 use Rattle.word.specs.Profile.{LP5523}
 use Rattle.word.specs.Steps.{address_at}
 use Rattle.plan.specs.declared.EnginePlan.TheVariants.{CodeOnly, CodeAndTable}
 use Rattle.plan.specs.declared.Plan.{Plan}
 use Rattle.plan.specs.declared.Report.{Report}
-use Rattle.plan.specs.declared.Verdict.TheVariants as verdict
+use Rattle.plan.specs.declared.CheckError.TheVariants as verdict
 use Rattle.plan.specs.Verdict.{report}
 use Rattle.grammar.specs.declared.LineKind.TheVariants.{Op, Row, Spare}
-use Rattle.asm.specs.declared.Assembled.{Assembled}
-use Rattle.asm.specs.declared.Assembled.TheVariants.{Program, WrongLength, Malformed, UnknownOp, OutsideField, WrongLineCount, InvalidRange, CodeOverlapsTable}
+use Rattle.grammar.specs.declared.LineError.TheVariants.{Malformed, UnknownOp, OutsideField}
+use Rattle.asm.specs.declared.AssembleError.{AssembleError}
+use Rattle.asm.specs.declared.AssembleError.TheVariants.{WrongLength, Line, WrongLineCount, InvalidRange, CodeOverlapsTable}
 use Rattle.asm.specs.declared.LineReport.{LineReport}
-use Rattle.asm.specs.declared.Disassembled.{Disassembled}
-use Rattle.asm.specs.declared.Disassembled.TheVariants.{Length, Refused, TooShort}
+use Rattle.asm.specs.declared.DisassembleError.{DisassembleError}
+use Rattle.asm.specs.declared.DisassembleError.TheVariants.{Refused, TooShort}
 use Rattle.asm.specs.Places.{line_kind_at, owner_at, line_of}
 use Rattle.asm.specs.Answers.{line_report_of, written_of, writing_of}
 
@@ -45,9 +46,16 @@ abbrev pub in_line : ℕ → ℕ → LineReport
 in_line n l = record { number = n; line = l }
 
 -- "Numbers of refusal", the assembler's.
-abbrev pub read_answers : List Assembled
+abbrev pub read_answers : List (Result Plan AssembleError)
 read_answers =
-    Program overlapping ∷ WrongLength ∷ InvalidRange ∷ CodeOverlapsTable ∷ Malformed 7 ∷ UnknownOp 7 ∷ OutsideField 7 ∷ WrongLineCount ∷ []
+    Ok overlapping ∷
+    Err WrongLength ∷
+    Err InvalidRange ∷
+    Err CodeOverlapsTable ∷
+    Err (Line 7 Malformed) ∷
+    Err (Line 7 UnknownOp) ∷
+    Err (Line 7 OutsideField) ∷
+    Err WrongLineCount ∷ []
 
 abbrev pub ReadNumbers : Type 0
 ReadNumbers =
@@ -55,14 +63,14 @@ ReadNumbers =
     ≡ in_line 0 0 ∷ in_line 9 0 ∷ in_line 11 0 ∷ in_line 12 0 ∷ in_line 20 7 ∷ in_line 21 7 ∷ in_line 22 7 ∷ in_line 23 0 ∷ []
 
 -- The disassembler's.
-abbrev pub write_answers : List Disassembled
+abbrev pub write_answers : List (Result ℕ DisassembleError)
 write_answers =
-    Length 1500 ∷
-    Refused verdict.WrongLength ∷
-    Refused (verdict.InvalidRange 2) ∷
-    Refused (verdict.CodeOverlapsTable 3) ∷
-    Refused (verdict.UndefinedWord 1 (address_at 5)) ∷
-    TooShort ∷ []
+    Ok 1500 ∷
+    Err (Refused verdict.WrongLength) ∷
+    Err (Refused (verdict.InvalidRange 2)) ∷
+    Err (Refused (verdict.CodeOverlapsTable 3)) ∷
+    Err (Refused (verdict.UndefinedWord 1 (address_at 5))) ∷
+    Err TooShort ∷ []
 
 abbrev pub reports : List Report
 reports = report 0 0 0 ∷ report 9 0 0 ∷ report 11 2 0 ∷ report 12 3 0 ∷ report 13 1 5 ∷ report 24 0 0 ∷ []
@@ -70,7 +78,7 @@ reports = report 0 0 0 ∷ report 9 0 0 ∷ report 11 2 0 ∷ report 12 3 0 ∷ 
 abbrev pub WrittenNumbers : Type 0
 WrittenNumbers =
     (map writing_of write_answers ≡ reports)
-    × (map (λ (r : Disassembled). (written_of r).size) write_answers ≡ 1500 ∷ 0 ∷ 0 ∷ 0 ∷ 0 ∷ 0 ∷ [])
+    × (map (λ (r : Result ℕ DisassembleError). (written_of r).size) write_answers ≡ 1500 ∷ 0 ∷ 0 ∷ 0 ∷ 0 ∷ 0 ∷ [])
 
 pub record Cases : Type 0 where
   pub kinds : KindsAtPlaces

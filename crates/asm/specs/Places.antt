@@ -3,17 +3,14 @@
 use Rattle.std.specs.Prelude.{ℕ, ◌+◌, Bool, false, cond, ◌||◌, List, [], ◌∷◌}
 use Rattle.word.specs.Profile.{Profile, engines_of}
 use Rattle.plan.specs.declared.EnginePlan.{EnginePlan}
-use Rattle.plan.specs.declared.EnginePlan.TheVariants.{Unused, CodeOnly, CodeAndTable}
 use Rattle.plan.specs.declared.Plan.{Plan}
-use Rattle.plan.specs.Ranges.{engine_plans}
-use Rattle.plan.specs.Tests.{in_range, in_code}
+use Rattle.plan.specs.Ranges.{engine_plans, table_of}
+use Rattle.plan.specs.Tests.{in_some, in_code}
 use Rattle.grammar.specs.declared.LineKind.{LineKind}
 use Rattle.grammar.specs.declared.LineKind.TheVariants.{Op, Row, Spare}
 
 abbrev pub in_table : EnginePlan → ℕ → Bool
-in_table Unused a = false
-in_table (CodeOnly f l) a = false
-in_table (CodeAndTable f l t b) a = in_range t b a
+in_table q a = in_some (table_of q) a
 
 abbrev pub any_has : (EnginePlan → ℕ → Bool) → List EnginePlan → ℕ → Bool
 any_has has [] a = false

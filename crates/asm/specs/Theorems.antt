@@ -1,10 +1,10 @@
 -- What is promised of sheets. The proofs are in proofs/Theorems.antt, of RefusesExactly in proofs/Exactly.antt, of the writer's answers in
 -- proofs/Writes.antt and of WordsInLines in proofs/WordLines.antt.
-use Rattle.std.specs.Prelude.{ℕ, ◌+◌, ◌≤◌, ◌<◌, List, ◌∷◌, ◌++◌, ◌↔◌, ◌⊎◌, ◌≡◌, length, get_or}
+use Rattle.std.specs.Prelude.{ℕ, ◌+◌, ◌≤◌, ◌<◌, List, ◌∷◌, ◌++◌, ◌↔◌, ◌⊎◌, ◌≡◌, length, get_or, Ok, Err}
 use Rattle.word.specs.Profile.{Profile, words_of, engines_of}
 use Rattle.plan.specs.declared.Plan.{Plan}
-use Rattle.plan.specs.declared.Verdict.{Verdict}
-use Rattle.plan.specs.declared.Verdict.TheVariants.{Accept, InvalidRange, CodeOverlapsTable, UndefinedWord}
+use Rattle.plan.specs.declared.CheckError.{CheckError}
+use Rattle.plan.specs.declared.CheckError.TheVariants.{InvalidRange, CodeOverlapsTable, UndefinedWord}
 use Rattle.plan.specs.Verdict.{report, report_of}
 use Rattle.plan.specs.Ranges.{plan_at, InCode}
 use Rattle.plan.specs.Conditions.{Condition}
@@ -64,22 +64,23 @@ abbrev pub ReadsSound : Type 0
 ReadsSound = (P : Profile) (text image : List ℕ) (p : Plan) (words : ℕ) → assemble_of P words text ≡ program p image → Sound P p image
 
 -- The first of the writer's objections, in the order 9, 11, 12, 13: its condition is not met, and every condition before it is.
-pub record FirstObjection (P : Profile) (p : Plan) (image : List ℕ) (v : Verdict) : Type 0 where
-  pub before : List Verdict
-  pub after : List Verdict
-  pub place : objections_to P p ≡ before ++ (v ∷ after)
+pub record FirstObjection (P : Profile) (p : Plan) (image : List ℕ) (e : CheckError) : Type 0 where
+  pub before : List CheckError
+  pub after : List CheckError
+  pub place : objections_to P p ≡ before ++ (e ∷ after)
   pub earlier : AllOf (Condition P p image) before
-  pub fails : Condition P p image v → ⊥
+  pub fails : Condition P p image e → ⊥
 
 -- The writer's answers: it writes exactly where 9, 11, 12 and 13 are met and there is room; else it reports the first of these that is
--- not, or 24 where only room is missing; and it gives no other answer.
+-- not, or 24 where only room is missing; it gives no other answer; and no text that it writes is empty.
 pub record Writes (P : Profile) (p : Plan) (image : List ℕ) (room : ℕ) : Type 0 where
   pub is_written : (n : ℕ) → (disassemble_of P p image room ≡ wrote n) ↔ (Sound P p image × (length (sheet_of P p image) ≡ n) × (n ≤ room))
-  pub is_refused : (v : Verdict) → (disassemble_of P p image room ≡ unwritten (report_of v)) ↔ FirstObjection P p image v
+  pub is_refused : (e : CheckError) → (disassemble_of P p image room ≡ unwritten (report_of (Err e))) ↔ FirstObjection P p image e
   pub is24 : (disassemble_of P p image room ≡ unwritten (report 24 0 0)) ↔ (Sound P p image × (room < length (sheet_of P p image)))
   pub others :
       ((n : ℕ) × (disassemble_of P p image room ≡ wrote n))
-      ⊎ (((v : Verdict) × (disassemble_of P p image room ≡ unwritten (report_of v))) ⊎ (disassemble_of P p image room ≡ unwritten (report 24 0 0)))
+      ⊎ (((e : CheckError) × (disassemble_of P p image room ≡ unwritten (report_of (Err e)))) ⊎ (disassemble_of P p image room ≡ unwritten (report 24 0 0)))
+  pub not_empty : disassemble_of P p image room ≡ wrote 0 → ⊥
 
 abbrev pub WritesExactly : Type 0
 WritesExactly = (P : Profile) (p : Plan) (image : List ℕ) (room : ℕ) → Writes P p image room
@@ -87,7 +88,7 @@ WritesExactly = (P : Profile) (p : Plan) (image : List ℕ) (room : ℕ) → Wri
 -- All that the checker accepts has a sheet.
 abbrev pub AcceptedWritten : Type 0
 AcceptedWritten =
-    (P : Profile) (p : Plan) (image : List ℕ) (room : ℕ) → check_of P p image ≡ Accept → length (sheet_of P p image) ≤ room
+    (P : Profile) (p : Plan) (image : List ℕ) (room : ℕ) → check_of P p image ≡ Ok tt → length (sheet_of P p image) ≤ room
     → disassemble_of P p image room ≡ wrote (length (sheet_of P p image))
 
 -- The word with address a stands in line line_of P a, which has place engines_of P + a, counted from 0: the reader judges that line by what

@@ -1,15 +1,15 @@
 -- Writing a sheet ("The writer checks 9, 11, 12, 13, 24, reporting as the checker does; 9 and 24 with zeros"; "The writer changes only the
 -- text's own bytes").
-use Rattle.std.specs.Prelude.{ℕ, ◌+◌, cond, List, [], ◌∷◌, ◌++◌, map, eqb, leb, length}
+use Rattle.std.specs.Prelude.{ℕ, ◌+◌, cond, List, [], ◌∷◌, ◌++◌, map, eqb, leb, length, is_ok}
 use Rattle.text.specs.Bytes.{line_feed}
 use Rattle.word.specs.Profile.{Profile}
 use Rattle.word.specs.Steps.{address_at}
 use Rattle.plan.specs.declared.EnginePlan.{EnginePlan}
 use Rattle.plan.specs.declared.Plan.{Plan}
 use Rattle.plan.specs.declared.Report.{Report}
-use Rattle.plan.specs.declared.Verdict.{Verdict}
-use Rattle.plan.specs.declared.Verdict.TheVariants.{WrongLength, InvalidRange, CodeOverlapsTable, UndefinedWord}
-use Rattle.plan.specs.Verdict.{report, report_of, is_accept}
+use Rattle.plan.specs.declared.CheckError.{CheckError}
+use Rattle.plan.specs.declared.CheckError.TheVariants.{WrongLength, InvalidRange, CodeOverlapsTable, UndefinedWord}
+use Rattle.plan.specs.Verdict.{Verdict, report, report_of}
 use Rattle.plan.specs.Ranges.{engine_plans, plan_at, code_addresses}
 use Rattle.plan.specs.Tests.{holds}
 use Rattle.plan.specs.Check.{engine_numbers, joined, first_failing}
@@ -47,11 +47,11 @@ unfoldable pub sheet_of : Profile → Plan → List ℕ → List ℕ
 sheet_of P p image = ended (plan_lines P 1 (engine_plans P p) ++ word_lines P p 0 image)
 
 -- 13 for each code word of engine i, upward.
-abbrev pub undefined_at : Plan → Profile → ℕ → List Verdict
+abbrev pub undefined_at : Plan → Profile → ℕ → List CheckError
 undefined_at p P i = map (λ (a : ℕ). UndefinedWord i (address_at a)) (code_addresses (plan_at P p i))
 
 -- What can be said against writing a plan and its image, in order: 9, 11, 12, 13.
-abbrev pub objections_to : Profile → Plan → List Verdict
+abbrev pub objections_to : Profile → Plan → List CheckError
 objections_to P p =
     WrongLength ∷
     map InvalidRange (engine_numbers P) ++
@@ -79,7 +79,7 @@ unwritten r = record { number = r.number; engine = r.engine; address = r.address
 unfoldable pub disassemble_of : Profile → Plan → List ℕ → ℕ → Written
 disassemble_of P p image room =
     cond
-    (is_accept (writable_of P p image))
+    (is_ok (writable_of P p image))
     (cond (leb (length (sheet_of P p image)) room) (wrote (length (sheet_of P p image))) (unwritten (report 24 0 0)))
     (unwritten (report_of (writable_of P p image)))
 

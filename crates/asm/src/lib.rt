@@ -3,18 +3,19 @@
 // `disassembler`, which writes one.
 #![tactic(auto)]
 
-use plan::{Plan, Verdict};
+ghost use Rattle.std.specs.Prelude.{◌≡◌};
+ghost use Rattle.asm.specs.declared.DisassembleError.TheVariants.{Refused};
 
-// What the assembler answers; lines are counted from 1. `reading_of` in specs/Answers.antt gives each
-// case's number and line.
-#[derive(Clone, Copy)]
-pub enum Assembled {
-    Program(Plan),
+use grammar::LineError;
+use plan::CheckError;
+
+// Why a sheet is refused; lines are counted from 1. `refusal_of` in specs/Answers.antt gives each case's
+// number and line.
+#[derive(Clone, Copy, Debug, PartialEq, Eq)]
+pub enum AssembleError {
     // the lent image doesn't have as many words as the chip
     WrongLength,
-    Malformed { line: u16 },
-    UnknownOp { line: u16 },
-    OutsideField { line: u16 },
+    Line { line: u16, error: LineError },
     // not as many lines as plans and words
     WrongLineCount,
     // first above last, or top above bottom
@@ -22,18 +23,25 @@ pub enum Assembled {
     CodeOverlapsTable,
 }
 
-// A refusal of the assembler: its number and line, zeros for success.
-#[derive(Clone, Copy)]
+// The assembler's answer as document 01 reports it: its number and line, zeros for success.
+#[derive(Clone, Copy, Debug, PartialEq, Eq)]
 pub struct LineReport {
     pub number: u16,
     pub line: u16,
 }
 
-// What the disassembler answers. `writing_of` in specs/Answers.antt gives each case's number.
-#[derive(Clone, Copy)]
-pub enum Disassembled {
-    Length(usize),
-    Refused(Verdict),
+// Why a plan and its image are not written. `written_of` in specs/Answers.antt gives each case's number.
+#[derive(Clone, Copy, Debug, PartialEq, Eq)]
+pub enum DisassembleError {
+    Refused(CheckError),
     // the lent bytes are fewer than the text's
     TooShort,
+}
+
+impl From<CheckError> for DisassembleError {
+    ghost from_gives = { λ e r. r ≡ Refused e };
+
+    fn from(error: CheckError) -> DisassembleError {
+        DisassembleError::Refused(error)
+    }
 }

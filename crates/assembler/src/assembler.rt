@@ -1,132 +1,77 @@
 // The assembler.
-ghost use Rattle.std.specs.Prelude.{List, [], ◌≡◌, ℕ, ◌≤◌, length};
+ghost use Rattle.std.specs.Prelude.{List, [], ◌≡◌, ℕ, length};
+ghost use Rattle.text.specs.Bytes.{line_feed, split};
 ghost use Rattle.word.specs.Profile.{LP5523};
 ghost use Rattle.plan.specs.Check.{check_ranges_of};
 ghost use Rattle.plan.specs.Verdict.{report_of};
-ghost use Rattle.asm.specs.declared.Assembled.{Assembled};
-ghost use Rattle.assembler.specs.declared.PlanLine.TheVariants.{Refused};
 ghost use Rattle.asm.specs.Answers.{reading_of};
 ghost use Rattle.asm.specs.Reading.{ranged, read_words, read_sheet, assemble_of, image_after};
-ghost use Rattle.assembler.specs.internal.Walks.{lines_from};
 
-use super::answers::unended;
+use super::lines::first_line;
 use super::plans::read_plan;
 use super::words::read_word;
-use crate::{PlanLine, WordRead};
-use asm::Assembled;
-use plan::{Plan, Verdict};
-use sheet_places::line_kind_at;
-use text::LINE_FEED;
+use asm::AssembleError;
+use plan::{CheckError, Plan};
+use sheet_places::{line_kind_at, line_of};
 use word::WORDS;
 
-// 11 and 12.
-fn judged(plan: Plan) -> Assembled
+// The plan, if it passes 11 and 12.
+fn with_valid_ranges(plan: Plan) -> Result<Plan, AssembleError>
     ensures { (ws : List ℕ) → reading_of result ws ≡ ranged (report_of (check_ranges_of LP5523 plan)).number plan ws }
 {
-    match checker::check_ranges(plan) {
-        Verdict::InvalidRange { engine: _ } => Assembled::InvalidRange,
-        Verdict::CodeOverlapsTable { engine: _ } => Assembled::CodeOverlapsTable,
-        _ => Assembled::Program(plan),
-    }
+    let Err(error) = checker::check_ranges(plan) else {
+        return Ok(plan);
+    };
+    // `check_ranges` gives no other error
+    Err(match error {
+        CheckError::InvalidRange { .. } => AssembleError::InvalidRange,
+        _ => AssembleError::CodeOverlapsTable,
+    })
 }
 
-// Reads the word lines from a place on into the lent words.
-fn read_words(text: &[u8], from: usize, plan: Plan, words: &mut [u16]) -> Assembled
-    requires { (from ≤ length text.now) × (length words.old ≡ 96) }
-    ensures { reading_of result words.new ≡ read_words LP5523 plan 96 0 4 [] (lines_from from text.now) }
+// Reads the word lines, with which a text begins, into the lent words.
+fn read_words(text: &[u8], plan: Plan, words: &mut [u16; WORDS]) -> Result<Plan, AssembleError>
+    ensures { reading_of result words.new ≡ read_words LP5523 plan 96 0 4 [] (split line_feed text.now) }
 {
-    let mut at = from;
-    let mut k = 0;
-    while k < WORDS {
-        let part = text_bytes::part_at(text, at, LINE_FEED);
-        let end = at + part.len();
-        let line = k as u16 + 4;
-        if end >= text.len() {
-            return unended(part, line);
-        }
-        match read_word(part, line_kind_at(plan, k as u16), line) {
-            WordRead::Word(w) => words[k] = w,
-            WordRead::Refused(r) => return r,
-        }
-        at = end + 1;
-        k += 1;
+    let mut rest = text;
+    for (k, word) in words.iter_mut().enumerate() {
+        let line = line_of(k as u16) as u16;
+        let (part, after) = first_line(rest, line)?;
+        let code = read_word(part, line_kind_at(plan, k as u16));
+        *word = code.map_err(|error| AssembleError::Line { line, error })?;
+        rest = after;
     }
-    if at < text.len() {
-        return Assembled::WrongLineCount;
+    if !rest.is_empty() {
+        return Err(AssembleError::WrongLineCount);
     }
-    judged(plan)
+    with_valid_ranges(plan)
 }
 
-// The refusal in a plan line that has one.
-fn plan_refusal(line: PlanLine) -> Assembled
-    ensures { (a : Assembled) → line ≡ Refused a → result ≡ a }
-{
-    match line {
-        PlanLine::Refused(r) => r,
-        PlanLine::Plan { plan: _, next: _ } => Assembled::WrongLineCount,
-    }
-}
-
-fn read_sheet(text: &[u8], words: &mut [u16]) -> Assembled
-    requires { length words.old ≡ 96 }
+fn read_sheet(text: &[u8], words: &mut [u16; WORDS]) -> Result<Plan, AssembleError>
     ensures { reading_of result words.new ≡ read_sheet LP5523 text.now }
 {
-    let line1 = read_plan(text, 0, 1);
-    let PlanLine::Plan {
-        plan: engine1,
-        next: at1,
-    } = line1
-    else {
-        return plan_refusal(line1);
-    };
-    let line2 = read_plan(text, at1, 2);
-    let PlanLine::Plan {
-        plan: engine2,
-        next: at2,
-    } = line2
-    else {
-        return plan_refusal(line2);
-    };
-    let line3 = read_plan(text, at2, 3);
-    let PlanLine::Plan {
-        plan: engine3,
-        next: at3,
-    } = line3
-    else {
-        return plan_refusal(line3);
-    };
+    let (engine1, rest) = read_plan(text, 1)?;
+    let (engine2, rest) = read_plan(rest, 2)?;
+    let (engine3, rest) = read_plan(rest, 3)?;
     let plan = Plan {
         engine1,
         engine2,
         engine3,
     };
-    read_words(text, at3, plan, words)
+    read_words(rest, plan, words)
 }
 
-fn copy(from: &[u16], to: &mut [u16])
-    requires { length from.now ≡ length to.old }
-    ensures { to.new ≡ from.now }
-{
-    let mut i = 0;
-    while i < from.len() {
-        to[i] = from[i];
-        i += 1;
-    }
-}
-
-// Reads a sheet into the lent image. A refusal leaves the image as it was.
-pub fn assemble(text: &[u8], image: &mut [u16]) -> Assembled
+// Reads a sheet into the lent image. A refusal leaves the image as it was. The image stays a slice: once
+// `try_from` has made it an array, no fact says by name what the slice holds afterwards.
+pub fn assemble(text: &[u8], image: &mut [u16]) -> Result<Plan, AssembleError>
     ensures result_value { reading_of result image.new ≡ assemble_of LP5523 (length image.old) text.now }
     ensures image_after { image.new ≡ image_after (assemble_of LP5523 (length image.old) text.now) image.old }
 {
     if image.len() != WORDS {
-        return Assembled::WrongLength;
+        return Err(AssembleError::WrongLength);
     }
     let mut words = [0u16; WORDS];
-    let read = read_sheet(text, &mut words);
-    let Assembled::Program(_) = read else {
-        return read;
-    };
-    copy(&words, image);
-    read
+    let plan = read_sheet(text, &mut words)?;
+    image.copy_from_slice(&words);
+    Ok(plan)
 }

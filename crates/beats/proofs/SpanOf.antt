@@ -1,7 +1,7 @@
 -- The beat and the run that beats one after another are.
 use Prim.Native.Nat.{ℕ, zero, suc, ◌+◌, ◌≤◌, ◌<◌}
 use mathlib.Core.Bool.{Bool, true, false, not, cond, ◌||◌}
-use mathlib.Core.List.{List, [], ◌∷◌, map}
+use mathlib.Core.List.{List, [], ◌∷◌}
 use mathlib.Core.Path.{◌≡◌, refl, sym, ◌∙◌, ap, ap₂}
 use native.Mathlib.Omega.{arith}
 use lib.Dec.{eqb}
@@ -12,22 +12,19 @@ use Rattle.machine.specs.declared.Chip.{Chip}
 use Rattle.machine.specs.declared.Engine.{Engine}
 use Rattle.machine.specs.declared.TurnResult.{TurnResult}
 use Rattle.machine.specs.declared.TickResult.{TickResult}
-use Rattle.machine.specs.declared.RunResult.{RunResult}
 use Rattle.machine.specs.Parts.{with_engines}
 use Rattle.machine.specs.Triggers.{pulsed}
 use Rattle.machine.specs.Turn.{acts, turn}
 use Rattle.machine.specs.Tick.{some, stopped, with_pulse, turns, tick}
-use Rattle.machine.specs.Run.{quiet, tally, one_more, beats_more, most_beats, run_of}
+use Rattle.machine.specs.Run.{Ran, quiet, tally, one_more, beats_more, most_beats, run_of}
 use Rattle.machine.proofs.Common.{or_false_left, or_false_right, each_length}
 use Rattle.machine.proofs.Run.{run_goes}
 use Rattle.machine.proofs.Theorems.{stopped_beat}
 use Rattle.machine.proofs.Safety.{turn_rests}
 use Rattle.machine.proofs.Recorded.{tick_goes}
 use Rattle.machine.proofs.OnChip.{going, not_stopped, beat_going}
-use Rattle.engine_core.proofs.Three.{three}
 use Rattle.engine.specs.declared.Span.{Span}
 use Rattle.engine.specs.declared.Cores.{Cores}
-use Rattle.engine.specs.declared.CoresRan.{CoresRan}
 use Rattle.engine.specs.Parts.{chip_of, spanned}
 use Rattle.engine.specs.Spans.{no_beat, one_beat_more, span_of}
 use Rattle.engine.proofs.ByLevels.{each_none}
@@ -55,28 +52,28 @@ unfolding quiet
 stopped_quiet m h = ap (λ (b : Bool). b || not (some acts m.engines)) h
 
 -- a run has no beat where all is quiet
-quiet_run : (n : ℕ) (r : RunResult) → quiet r.chip ≡ true → beats_more LP5523 n r ≡ r
+quiet_run : (n : ℕ) (r : Ran) → quiet r.chip ≡ true → beats_more LP5523 n r ≡ r
 unfolding beats_more
 quiet_run zero r q = refl
 quiet_run (suc n) r q = ap (λ (b : Bool). cond b r (beats_more LP5523 n (one_more LP5523 r))) q
 
 -- beats of a chip that is not stopped are a run's: no beat stops it
-span_run : (n : ℕ) (s : Span) → stopped s.chip ≡ false → ran_from (span_of n s) ≡ beats_more LP5523 n (ran_from s)
+span_run : (n : ℕ) (s : Span Chip) → stopped s.after ≡ false → ran_from (span_of n s) ≡ beats_more LP5523 n (ran_from s)
 unfolding beats_more
 span_run zero s h = ap ran_from (span_done zero s refl)
 span_run (suc n) s h =
-    by_test (some acts s.chip.engines)
+    by_test (some acts s.after.engines)
     (λ t.
-    let next : ran_from (one_beat_more s) ≡ one_more LP5523 (ran_from s) = ap more (sym (beat_goes s.chip h)) in
+    let next : ran_from (one_beat_more s) ≡ one_more LP5523 (ran_from s) = ap more (sym (beat_goes s.after h)) in
     ap ran_from (span_busy n s t) ∙ span_run n (one_beat_more s) (still h) ∙ ap (beats_more LP5523 n) next
-    ∙ sym (ap (λ (b : Bool). cond b (ran_from s) (beats_more LP5523 n (one_more LP5523 (ran_from s)))) (quiet_acts s.chip h ∙ ap not t)))
-    (λ t. ap ran_from (span_quiet (suc n) s t) ∙ sym (quiet_run (suc n) (ran_from s) (quiet_acts s.chip h ∙ ap not t)))
+    ∙ sym (ap (λ (b : Bool). cond b (ran_from s) (beats_more LP5523 n (one_more LP5523 (ran_from s)))) (quiet_acts s.after h ∙ ap not t)))
+    (λ t. ap ran_from (span_quiet (suc n) s t) ∙ sym (quiet_run (suc n) (ran_from s) (quiet_acts s.after h ∙ ap not t)))
   where
-    more : TickResult → RunResult
+    more : TickResult → Ran
     more t = record { outcome = (ran_from s).outcome; chip = t.chip; beats = (one_beat_more s).beats; words = tally t.ended s.words }
 
-    still : stopped s.chip ≡ false → stopped (turns LP5523 3 0 s.chip).chip ≡ false
-    still h = sym (ap (λ (t : TickResult). stopped t.chip) (beat_goes s.chip h)) ∙ not_stopped LP5523 _ (beat_going LP5523 false s.chip (going LP5523 s.chip h))
+    still : stopped s.after ≡ false → stopped (turns LP5523 3 0 s.after).chip ≡ false
+    still h = sym (ap (λ (t : TickResult). stopped t.chip) (beat_goes s.after h)) ∙ not_stopped LP5523 _ (beat_going LP5523 false s.after (going LP5523 s.after h))
 
 pub run_of_beats : (n : ℕ) (m : Chip) → n ≤ most_beats → ran_from (beats_of false n m) ≡ run_of LP5523 n m
 run_of_beats n m h =
@@ -128,17 +125,13 @@ beat_of_beats pulse m l =
     ∙ one_beat (with_pulse pulse m) (each_length (pulsed pulse) 0 m.engines ∙ l)
     ∙ sym (tick_goes LP5523 pulse m s))
 
--- the beat, as its three engines' counts tell which ended a word
-pub ended_three : (s : Span) (d : ℕ) → length s.words ≡ 3 → ◌≡◌ {A = TickResult} (record { chip = s.chip; pin = s.pin; ended = eqb (get_or s.words 0 d) 1 ∷ (eqb (get_or s.words 1 d) 1 ∷ (eqb (get_or s.words 2 d) 1 ∷ [])) }) (ticked_from s)
-ended_three s d l = sym (ap (λ (ws : List ℕ). record { chip = s.chip; pin = s.pin; ended = map (λ (n : ℕ). eqb n 1) ws }) (three d s.words l))
-
 -- the beats of m, from the parts that the code took of it, k, levels and counts, and what they were after the beats
-pub beats_are : (m : Chip) (pulse : Bool) (most : ℕ) (k : Cores) (levels : List ℕ) (counts : List (List ℕ)) (t : CoresRan) (levels' : List ℕ) (counts' : List (List ℕ)) {r : Chip} → stopped m ≡ false →
-    r ≡ chip_of (fixed_of m) t.cores levels' counts' → levels ≡ levels_of m → counts ≡ counts_of m → chip_of (fixed_of m) k (levels_of m) (counts_of m) ≡ with_pulse pulse m →
+pub beats_are : (m : Chip) (pulse : Bool) (most : ℕ) (k : Cores) (levels : List ℕ) (counts : List (List ℕ)) (t : Span Cores) (levels' : List ℕ) (counts' : List (List ℕ)) {r : Chip} → stopped m ≡ false →
+    r ≡ chip_of (fixed_of m) t.after levels' counts' → levels ≡ levels_of m → counts ≡ counts_of m → chip_of (fixed_of m) k (levels_of m) (counts_of m) ≡ with_pulse pulse m →
     spanned (fixed_of m) t levels' counts' ≡ span_of most (no_beat (chip_of (fixed_of m) k levels counts)) →
-    ◌≡◌ {A = Span} (record { chip = r; pin = t.pin; beats = t.beats; words = t.words }) (beats_of pulse most m)
+    ◌≡◌ {A = Span Chip} (record { after = r; pin = t.pin; beats = t.beats; words = t.words }) (beats_of pulse most m)
 beats_are m pulse most k levels counts t levels' counts' s r p q e h =
-    ap (λ (x : Chip). record { chip = x; pin = t.pin; beats = t.beats; words = t.words }) r
+    ap (λ (x : Chip). record { after = x; pin = t.pin; beats = t.beats; words = t.words }) r
     ∙ h
     ∙ ap (λ (x : Chip). span_of most (no_beat x)) (ap₂ (chip_of (fixed_of m) k) p q ∙ e)
     ∙ sym (ap (λ (b : Bool). cond b (no_beat m) (span_of most (no_beat (with_pulse pulse m)))) s)

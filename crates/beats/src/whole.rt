@@ -9,21 +9,25 @@ use machine::Chip;
 
 // A pulse at the pin, if given, and then at most so many beats; it stops before a beat if all is
 // quiet. A chip that is stopped takes no pulse, and no beat changes whether it is.
-pub fn run_beats(chip: Chip, pulse: bool, most: u32) -> Span
+pub fn run_beats(chip: Chip, pulse: bool, most: u32) -> Span<Chip>
     ensures { result ≡ beats_of pulse most chip }
 {
     if stopped(chip) {
         return Span {
-            chip,
+            after: chip,
             pin: false,
             beats: 0,
             words: [0; 3],
         };
     }
-    let outputs = chip.outputs;
-    let mut levels = levels_of(outputs);
-    let mut counts = [counts_of(chip, 0), counts_of(chip, 1), counts_of(chip, 2)];
-    let t = take_beats(
+    let mut levels = levels_of(chip);
+    let mut counts = counts_of(chip);
+    let Span {
+        after,
+        pin,
+        beats,
+        words,
+    } = take_beats(
         cores_of(chip, pulse),
         chip.d,
         &chip.memory,
@@ -31,12 +35,10 @@ pub fn run_beats(chip: Chip, pulse: bool, most: u32) -> Span
         &mut counts,
         most,
     );
-    let after = t.cores;
-    let words = t.words;
     Span {
-        chip: chip_of(chip, after, levels, counts),
-        pin: t.pin,
-        beats: t.beats,
+        after: chip_of(chip, after, levels, counts),
+        pin,
+        beats,
         words,
     }
 }

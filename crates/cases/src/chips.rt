@@ -1,39 +1,44 @@
 // Chips, made and changed by the calls of crate chip alone, as a host would. A line has commands: a
 // name, and the numbers after it.
+ghost use Rattle.std.specs.Prelude.{◌<◌, ◌≤◌, length};
+
 mod calls;
 mod loading;
 mod names;
 mod views;
 
-use crate::{numbers, print};
-use calls::called;
+use crate::numbers;
+use crate::pieces::{first, rest};
 use machine::Chip;
-use names::{base_of, named};
+use names::Call;
 use std::io;
-use text::SPACE;
-use text_bytes::{after_part, part_at};
 
 // The chip, and the address where the next words go.
 #[derive(Clone, Copy)]
-pub struct State {
-    pub chip: Chip,
-    pub at: usize,
+pub struct Chips {
+    chip: Chip,
+    at: usize,
 }
 
-pub fn fresh(m: Chip) -> State {
-    State { chip: m, at: 0 }
-}
-
-pub fn commands(rt: &impl Print, s: State, line: &[u8]) -> io::Result<State> {
-    print::text(rt, b":")?;
-    let mut now = s;
-    let mut at = 0;
-    while at < line.len() {
-        let name = part_at(line, at, SPACE);
-        let call = named(name);
-        let n = numbers::read(rt, line, after_part(line, at, SPACE), base_of(call))?;
-        now = called(rt, now, call, name, n)?;
-        at = n.end;
+impl Chips {
+    pub fn new(chip: Chip) -> Chips {
+        Chips { chip, at: 0 }
     }
-    Ok(now)
+
+    // A loop over what is left: only after a command's numbers is it known where the next command begins.
+    pub fn commands(&mut self, rt: &impl Print, line: &[u8]) -> io::Result<()> {
+        print!(rt; ":")?;
+        let mut parts = line;
+        while !parts.is_empty() {
+            let name = first(parts);
+            let call = Call::named(name);
+            let (numbers, after) = numbers::read(rt, rest(parts), Call::base(call))?;
+            match call {
+                Some(call) => self.call(rt, call, &numbers)?,
+                None => views::show(rt, &self.chip, name, &numbers)?,
+            }
+            parts = after;
+        }
+        Ok(())
+    }
 }

@@ -7,7 +7,6 @@ mod names;
 mod numbers;
 mod pieces;
 mod plans;
-mod print;
 mod script;
 mod sheets;
 mod words;
@@ -17,7 +16,8 @@ ghost use Rattle.std.specs.Prelude.{◌≤◌, length, IfOk};
 use std::io;
 use std::io::Read;
 
-// Reads until the buffer is full or the input ends; how many bytes that is.
+// Reads until the buffer is full or the input ends; how many bytes that is. A `for` has no use here: how
+// far a read goes is known only after it. Each program has its own, since their errors differ.
 fn read_full(input: &mut impl Read, buf: &mut [u8]) -> io::Result<usize>
     ensures { IfOk result (λ n. n ≤ length buf.new) }
 {
@@ -36,7 +36,7 @@ fn main(rt: HostRuntime) -> io::Result<()> {
     let mut buf = [0u8; 131072];
     let n = read_full(&mut rt.reader(), &mut buf)?;
     if n == buf.len() {
-        return print::text(&rt, b"the script is too long\n");
+        return println!(rt; "the script is too long");
     }
     let mut sheet = [0u8; 8192];
     script::play(&rt, &buf[..n], &mut sheet)

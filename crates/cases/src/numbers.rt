@@ -1,14 +1,12 @@
 // The numbers of a line. One that can't be read or is too large is said in the output, and 0 stands
 // for it.
-ghost use Rattle.std.specs.Prelude.{◌≤◌, IfOk};
+ghost use Rattle.std.specs.Prelude.{◌≤◌, length, IfOk};
 
 use crate::names::is_name;
-use crate::print;
+use crate::pieces::{first, rest};
 use std::io;
-use text::SPACE;
-use text_bytes::{after_part, part_at};
 
-#[derive(Clone, Copy)]
+#[derive(Clone, Copy, Debug, PartialEq, Eq)]
 pub enum Base {
     Decimal,
     Hex,
@@ -16,119 +14,58 @@ pub enum Base {
     ByLength,
 }
 
+impl Base {
+    fn radix(self, digits: usize) -> u32 {
+        match self {
+            Base::Hex => 16,
+            Base::ByLength if digits == 4 => 16,
+            Base::Decimal | Base::ByLength => 10,
+        }
+    }
+}
+
+// The most numbers that a line has.
+pub const MOST: usize = 40;
+
+// A line's numbers: so many of the values, of which there is a fixed number, since nothing is allocated.
 #[derive(Clone, Copy)]
 pub struct Numbers {
-    pub count: usize,
-    pub values: [u32; 40],
-    // the place after them in their text
-    pub end: usize,
+    values: [u32; MOST],
+    count: usize,
+    ghost room: { count ≤ 40 },
 }
 
-const LARGEST: u64 = 4_294_967_295;
-
-fn is_hex(base: Base, digits: usize) -> bool {
-    match base {
-        Base::Decimal => false,
-        Base::Hex => true,
-        Base::ByLength => digits == 4,
-    }
-}
-
-#[derive(Clone, Copy)]
-enum Digit {
-    Value(u32),
-    Broken,
-}
-
-fn digit_of(b: u8, hex: bool) -> Digit {
+// The number of a digit, letters in capitals.
+fn digit_of(b: u8, radix: u32) -> Option<u32> {
     match b {
-        b'0'..=b'9' => Digit::Value((b - b'0') as u32),
-        b'A'..=b'F' => {
-            if hex {
-                return Digit::Value((b - b'A') as u32 + 10);
-            }
-            Digit::Broken
-        }
-        _ => Digit::Broken,
+        b'0'..=b'9' => Some(u32::from(b - b'0')),
+        b'A'..=b'F' if radix == 16 => Some(u32::from(b - b'A') + 10),
+        _ => None,
     }
 }
 
-// A number with one more digit.
-fn longer(n: u32, digit: u32, hex: bool) -> u64 {
-    if hex {
-        return n as u64 * 16 + digit as u64;
+fn number_of(digits: &[u8], radix: u32) -> Option<u32> {
+    let mut n: u32 = 0;
+    for b in digits {
+        n = n.checked_mul(radix)?.checked_add(digit_of(*b, radix)?)?;
     }
-    n as u64 * 10 + digit as u64
+    Some(n)
 }
 
 fn refuse(rt: &impl Print) -> io::Result<()> {
-    print::text(rt, b" no such number")
+    print!(rt; " no such number")
 }
 
-// The number of digits, letters in capitals.
+// A number, or 0 where there is none, which is said.
+fn or_refused(rt: &impl Print, n: Option<u32>) -> io::Result<u32> {
+    if n.is_none() {
+        refuse(rt)?;
+    }
+    Ok(n.unwrap_or(0))
+}
+
 pub fn number(rt: &impl Print, digits: &[u8], base: Base) -> io::Result<u32> {
-    let hex = is_hex(base, digits.len());
-    let mut n: u32 = 0;
-    let mut i = 0;
-    while i < digits.len() {
-        let Digit::Value(digit) = digit_of(digits[i], hex) else {
-            refuse(rt)?;
-            return Ok(0);
-        };
-        let next = longer(n, digit, hex);
-        if next > LARGEST {
-            refuse(rt)?;
-            return Ok(0);
-        }
-        n = next as u32;
-        i += 1;
-    }
-    Ok(n)
-}
-
-// One number more, where there is one and room for it.
-fn with(rt: &impl Print, mut n: Numbers, digits: &[u8], base: Base) -> io::Result<Numbers> {
-    let at = n.count;
-    if digits.len() == 0 {
-        return Ok(n);
-    }
-    if at >= 40 {
-        print::text(rt, b" too many numbers")?;
-        return Ok(n);
-    }
-    n.values[at] = number(rt, digits, base)?;
-    n.count = at + 1;
-    Ok(n)
-}
-
-// The numbers from a place on, up to the next name.
-pub fn read(rt: &impl Print, text: &[u8], from: usize, base: Base) -> io::Result<Numbers>
-    ensures { IfOk result (λ n. from ≤ n.end) }
-{
-    let mut n = Numbers {
-        count: 0,
-        values: [0; 40],
-        end: 0,
-    };
-    let mut at = from;
-    while at < text.len() {
-        let part = part_at(text, at, SPACE);
-        if is_name(part) {
-            break;
-        }
-        n = with(rt, n, part, base)?;
-        at = after_part(text, at, SPACE);
-    }
-    n.end = at;
-    Ok(n)
-}
-
-// The number at a place; 0 if there is none.
-pub fn value(n: Numbers, place: usize) -> u32 {
-    if place >= 40 {
-        return 0;
-    }
-    n.values[place]
+    or_refused(rt, number_of(digits, base.radix(digits.len())))
 }
 
 pub fn at_most(rt: &impl Print, n: u32, most: u32) -> io::Result<u32>
@@ -141,12 +78,12 @@ pub fn at_most(rt: &impl Print, n: u32, most: u32) -> io::Result<u32>
     Ok(n)
 }
 
-pub fn byte(rt: &impl Print, n: Numbers, place: usize) -> io::Result<u8> {
-    Ok(at_most(rt, value(n, place), 255)? as u8)
+pub fn byte(rt: &impl Print, n: u32) -> io::Result<u8> {
+    Ok(at_most(rt, n, 255)? as u8)
 }
 
-pub fn wide(rt: &impl Print, n: Numbers, place: usize) -> io::Result<u16> {
-    Ok(at_most(rt, value(n, place), 65535)? as u16)
+pub fn wide(rt: &impl Print, n: u32) -> io::Result<u16> {
+    Ok(at_most(rt, n, 65_535)? as u16)
 }
 
 // The decimal number of one part.
@@ -155,4 +92,70 @@ pub fn decimal(rt: &impl Print, part: &[u8], most: u32) -> io::Result<u32>
 {
     let n = number(rt, part, Base::Decimal)?;
     at_most(rt, n, most)
+}
+
+impl Numbers {
+    // One number more, where there is one and room for it.
+    fn push(&mut self, rt: &impl Print, digits: &[u8], base: Base) -> io::Result<()> {
+        if digits.is_empty() {
+            return Ok(());
+        }
+        if self.count == MOST {
+            return print!(rt; " too many numbers");
+        }
+        self.values[self.count] = number(rt, digits, base)?;
+        self.count += 1;
+        Ok(())
+    }
+
+    pub fn count(&self) -> usize
+        ensures { result ≤ 40 }
+    {
+        self.count
+    }
+
+    pub fn all(&self) -> &[u32] {
+        &self.values[..self.count]
+    }
+
+    // The numbers behind the first.
+    pub fn after_first(&self) -> &[u32] {
+        self.all().get(1..).unwrap_or(&[])
+    }
+
+    // The number at a place; 0 if there is none.
+    pub fn value(&self, place: usize) -> u32 {
+        self.values.get(place).copied().unwrap_or(0)
+    }
+
+    pub fn wide(&self, rt: &impl Print, place: usize) -> io::Result<u16> {
+        wide(rt, self.value(place))
+    }
+
+    // The first four; 0 for those that aren't there. By a loop: `try_from_fn` with a closure that prints
+    // isn't proved to be callable at each place.
+    pub fn first_four(&self, rt: &impl Print) -> io::Result<[u16; 4]> {
+        let mut wides = [0u16; 4];
+        for (place, wide) in wides.iter_mut().enumerate() {
+            *wide = self.wide(rt, place)?;
+        }
+        Ok(wides)
+    }
+}
+
+// The numbers up to the next name, and the text from there on. A loop over what is left, since that is
+// given back too.
+pub fn read<'a, R: Print>(rt: &R, text: &'a [u8], base: Base) -> io::Result<(Numbers, &'a [u8])>
+    ensures { IfOk result (λ r. length r.1.now ≤ length text.now) }
+{
+    let mut numbers = Numbers {
+        values: [0; MOST],
+        count: 0,
+    };
+    let mut parts = text;
+    while !parts.is_empty() && !is_name(first(parts)) {
+        numbers.push(rt, first(parts), base)?;
+        parts = rest(parts);
+    }
+    Ok((numbers, parts))
 }

@@ -1,114 +1,107 @@
 // Sheets and op lines, read and written. A line is a command's name, and after a space what it needs.
 mod lent;
-mod names;
 mod ops;
 mod program;
 mod reading;
 mod writing;
 
+use crate::numbers;
 use crate::pieces::{first, rest};
-use crate::{numbers, print};
-use names::{Command, named};
 use plan::{EnginePlan, Plan};
-use program::{planned, worded};
 use std::io;
-use text_bytes::{put_byte, put_bytes};
+use text::LINE_FEED;
+use text_bytes::{Writer, until};
+use word::WORDS;
 
-// What the commands change, beside the bytes of the sheet.
-#[derive(Clone, Copy)]
-pub struct State {
-    // bytes of the sheet, and how many of them `back` keeps
-    pub sheet: usize,
-    pub kept: usize,
+// What the commands change.
+#[derive(Drop)]
+pub struct Sheets<'a> {
+    // lent bytes, how many of them are the sheet's, and how many `back` keeps: no `Writer`, since `back` may
+    // also go forward, to bytes that a shorter sheet has left
+    sheet: &'a mut [u8],
+    end: usize,
+    kept: usize,
     // words lent to the reader
-    pub words: usize,
+    words: usize,
     // bytes lent to the writer
-    pub room: usize,
+    room: usize,
     // the program for the writer: its plan, its words, and how many of them are lent
-    pub plan: Plan,
-    pub image: [u16; 100],
-    pub length: usize,
+    plan: Plan,
+    image: [u16; 100],
+    length: usize,
 }
 
-pub const NONE_YET: State = State {
-    sheet: 0,
-    kept: 0,
-    words: 96,
-    room: 8192,
-    plan: Plan {
-        engine1: EnginePlan::Unused,
-        engine2: EnginePlan::Unused,
-        engine3: EnginePlan::Unused,
-    },
-    image: [0; 100],
-    length: 96,
-};
-
-// The place after a line that is added at a place.
-fn put_line(sheet: &mut [u8], at: usize, bytes: &[u8]) -> usize {
-    let end = put_bytes(sheet, at, bytes);
-    put_byte(sheet, end, b'\n')
-}
-
-// The same line, so many times.
-fn put_lines(sheet: &mut [u8], at: usize, count: u32, bytes: &[u8]) -> usize {
-    let mut end = at;
-    for _ in 0..count {
-        end = put_line(sheet, end, bytes);
-    }
-    end
-}
-
-// A command that calls the reader or the writer, or shows what they gave.
-fn called(
-    rt: &impl Print,
-    s: State,
-    sheet: &[u8],
-    command: Command,
-    parts: &[u8],
-) -> io::Result<State> {
-    match command {
-        Command::Read => return reading::read(rt, s, sheet),
-        Command::Program => program::print(rt, s)?,
-        Command::Write => writing::write(rt, s, sheet)?,
-        Command::Show => writing::show(rt, s)?,
-        Command::Op => ops::read(rt, parts)?,
-        Command::Code => ops::write(rt, numbers::decimal(rt, parts, 65535)? as u16, s.room)?,
-        _ => print::text(rt, b": unknown")?,
-    }
-    Ok(s)
-}
-
-pub fn command(rt: &impl Print, s: State, sheet: &mut [u8], line: &[u8]) -> io::Result<State> {
-    let parts = rest(line);
-    let command = named(first(line));
-    let end = s.sheet;
-    let mut after = s;
-    match command {
-        Command::Sheet => after.sheet = 0,
-        Command::Keep => after.kept = end,
-        Command::Back => after.sheet = s.kept,
-        Command::Line => after.sheet = put_line(sheet, end, parts),
-        Command::Lines => {
-            after.sheet = put_lines(
-                sheet,
-                end,
-                numbers::decimal(rt, first(parts), 200)?,
-                rest(parts),
-            );
-        }
-        Command::Part => after.sheet = put_bytes(sheet, end, parts),
-        Command::Byte => after.sheet = put_byte(
+impl<'a> Sheets<'a> {
+    pub fn new(sheet: &'a mut [u8]) -> Sheets<'a> {
+        Sheets {
             sheet,
-            end,
-            numbers::decimal(rt, parts, 255)? as u8,
-        ),
-        Command::Words => after.words = numbers::decimal(rt, parts, 100)? as usize,
-        Command::Image => after.length = numbers::decimal(rt, parts, 100)? as usize,
-        Command::Room => after.room = numbers::decimal(rt, parts, 8192)? as usize,
-        Command::Plan => return planned(rt, s, parts),
-        Command::Word => return worded(rt, s, parts),
-        _ => return called(rt, s, sheet, command, parts),
+            end: 0,
+            kept: 0,
+            words: WORDS,
+            room: 8192,
+            plan: Plan {
+                engine1: EnginePlan::Unused,
+                engine2: EnginePlan::Unused,
+                engine3: EnginePlan::Unused,
+            },
+            image: [0; 100],
+            length: WORDS,
+        }
     }
-    Ok(after)
+
+    // The sheet's text, as far as the lent bytes reach.
+    fn text(&self) -> &[u8] {
+        until(self.sheet, self.end)
+    }
+
+    // Adds bytes to the sheet.
+    fn part(&mut self, bytes: &[u8]) {
+        let start = self.end.min(self.sheet.len());
+        let mut w = Writer::new(&mut self.sheet[start..]);
+        w.put_bytes(bytes);
+        self.end = self.end.saturating_add(w.at());
+    }
+
+    // Adds a line to the sheet.
+    fn line(&mut self, bytes: &[u8]) {
+        self.part(bytes);
+        self.part(&[LINE_FEED]);
+    }
+
+    // Adds the same line, so many times.
+    fn lines(&mut self, count: u32, bytes: &[u8]) {
+        for _ in 0..count {
+            self.line(bytes);
+        }
+    }
+
+    pub fn command(&mut self, rt: &impl Print, line: &[u8]) -> io::Result<()> {
+        let parts = rest(line);
+        match first(line) {
+            // the sheet: emptied, kept as it is, set to the end that was kept, or with more bytes at its end
+            b"sheet" => self.end = 0,
+            b"keep" => self.kept = self.end,
+            b"back" => self.end = self.kept,
+            b"line" => self.line(parts),
+            b"lines" => self.lines(numbers::decimal(rt, first(parts), 200)?, rest(parts)),
+            b"part" => self.part(parts),
+            b"byte" => self.part(&[numbers::decimal(rt, parts, 255)? as u8]),
+            // what is lent: words to the reader, words and bytes to the writer
+            b"words" => self.words = numbers::decimal(rt, parts, 100)? as usize,
+            b"image" => self.length = numbers::decimal(rt, parts, 100)? as usize,
+            b"room" => self.room = numbers::decimal(rt, parts, 8192)? as usize,
+            // the program for the writer, where no sheet says it
+            b"plan" => self.plan(rt, parts)?,
+            b"word" => self.word(rt, parts)?,
+            // calls, and what they gave
+            b"read" => self.read(rt)?,
+            b"program" => self.print(rt)?,
+            b"write" => self.write(rt)?,
+            b"show" => self.show(rt)?,
+            b"op" => ops::read(rt, parts)?,
+            b"code" => ops::write(rt, numbers::decimal(rt, parts, 65_535)? as u16, self.room)?,
+            _ => print!(rt; ": unknown")?,
+        }
+        Ok(())
+    }
 }

@@ -2,68 +2,60 @@
 // sheet line, up as 0 and A as 0; or `count`, and what codes are counted by.
 mod counts;
 
-use crate::names::{OPS, is_name, op_name, op_named, operands};
+use crate::names::{is_name, op_named};
+use crate::numbers;
 use crate::numbers::Base;
 use crate::pieces::{first, rest};
-use crate::{numbers, print};
-use grammar::{NAMES, Values};
+use grammar::{OP_COUNT, op_lines};
 use op_codec::{values_of, word_of};
 use std::io;
-use text_bytes::{same, until};
-use word::{Coded, Word};
+use word::{EncodeError, Word};
 
 // A word's op and its operands.
 fn print_word(rt: &impl Print, w: Word) -> io::Result<()> {
-    print::text(rt, b": ")?;
-    let v = values_of(w);
-    let op = v.a;
-    if op >= OPS {
-        return print::text(rt, b"undefined");
+    print!(rt; ": ")?;
+    let values = values_of(w);
+    let Some(op) = op_lines().get(usize::from(values[0])) else {
+        return print!(rt; "undefined");
+    };
+    rt.write_all(op.name)?;
+    for operand in values[1..].iter().take(op.form.len()) {
+        print!(rt; " {operand}")?;
     }
-    print::text(rt, op_name(&NAMES, op))?;
-    print::say(
-        rt,
-        until(b" $ $ $ $", operands(op) * 2),
-        [v.b as u32, v.c as u32, v.d as u32, v.e as u32],
-    )
+    Ok(())
 }
 
 // The word's code, or its refusal as document 01 numbers it.
 fn encoded(rt: &impl Print, w: Word) -> io::Result<()> {
     match encoder::encode(w) {
-        Coded::Code(code) => print::say(rt, b": #", [code as u32, 0, 0, 0]),
-        Coded::OutsideField => print::text(rt, b": refused 22"),
-        Coded::UndefinedWord => print::text(rt, b": refused 13"),
+        Ok(code) => print!(rt; ": {code:04X}"),
+        Err(EncodeError::OutsideField) => print!(rt; ": refused 22"),
+        Err(EncodeError::UndefinedWord) => print!(rt; ": refused 13"),
     }
 }
 
 // The word of an op, with its operands in a text.
 fn word_in(rt: &impl Print, op: u16, parts: &[u8]) -> io::Result<Word> {
-    let n = numbers::read(rt, parts, 0, Base::Decimal)?;
-    Ok(word_of(Values {
-        a: op,
-        b: numbers::wide(rt, n, 0)?,
-        c: numbers::wide(rt, n, 1)?,
-        d: numbers::wide(rt, n, 2)?,
-        e: numbers::wide(rt, n, 3)?,
-        f: 0,
-        g: 0,
-    }))
+    let (n, _) = numbers::read(rt, parts, Base::Decimal)?;
+    let [first, second, third, fourth] = n.first_four(rt)?;
+    Ok(word_of([op, first, second, third, fourth, 0, 0]))
 }
 
 pub fn command(rt: &impl Print, line: &[u8]) -> io::Result<()> {
     let name = first(line);
     if !is_name(name) {
         let n = numbers::number(rt, name, Base::Hex)?;
-        let code = numbers::at_most(rt, n, 65535)? as u16;
+        let code = numbers::at_most(rt, n, 65_535)? as u16;
         return print_word(rt, decoder::decode(code));
     }
-    if same(name, b"count") {
+    if matches!(name, b"count") {
         return counts::command(rt, rest(line));
     }
-    let op = op_named(name);
-    if op == OPS && !same(name, b"undefined") {
-        return print::text(rt, b": unknown");
-    }
+    let op = match op_named(name) {
+        Some(op) => op,
+        // past the last, the undefined word's
+        None if matches!(name, b"undefined") => OP_COUNT as u16,
+        None => return print!(rt; ": unknown"),
+    };
     encoded(rt, word_in(rt, op, rest(line))?)
 }

@@ -2,11 +2,10 @@
 // alone. The definitions are crate plan's.
 #![tactic(auto)]
 
-mod acceptance;
 mod image;
 mod ranges;
 mod successors;
 
 pub use image::check;
 pub use ranges::check_ranges;
-pub use successors::{in_code, in_range, stray_of};
+pub use successors::{in_code, stray_of};

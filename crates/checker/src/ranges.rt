@@ -1,4 +1,4 @@
-// 11 and 12: what can be said against a plan by itself.
+// The checks on the plan alone: 11 and 12.
 mod overlap;
 mod valid;
 
@@ -7,18 +7,15 @@ ghost use Rattle.word.specs.Profile.{LP5523};
 ghost use Rattle.plan.specs.Verdict.{report_of};
 ghost use Rattle.plan.specs.Check.{check_ranges_of};
 
-use crate::acceptance::is_accept;
 use crate::ranges::overlap::check_overlap;
 use crate::ranges::valid::check_valid;
-use plan::{Plan, Verdict};
+use plan::{CheckError, Plan};
 
-// The first condition on its ranges that a plan doesn't meet, or Accept.
-pub fn check_ranges(plan: Plan) -> Verdict
+// The first condition on its ranges that a plan doesn't meet is an Err.
+#[tactic(auto, using(plan::proofs::Passes::both_ranges))]
+pub fn check_ranges(plan: Plan) -> Result<(), CheckError>
     ensures { report_of result ≡ report_of (check_ranges_of LP5523 plan) }
 {
-    let order = check_valid(plan);
-    if !is_accept(order) {
-        return order;
-    }
+    check_valid(plan)?;
     check_overlap(plan)
 }

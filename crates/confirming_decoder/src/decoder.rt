@@ -1,58 +1,49 @@
 // From 16 bits to an instruction word. The leading four bits choose the function that reads the
-// rest; what was read is kept if it encodes to the same bits again.
+// rest; what was read is kept if it encodes to the same bits again. Functions that crate decoder has too
+// stand here again, since the two are compared.
+#![tactic(auto, unfolding(word::specs::Decode::reading))]
+
 ghost use Rattle.std.specs.Prelude.{◌≡◌, ◌/◌, ◌%◌, ◌≤◌, ◌<◌};
-ghost use Rattle.word.specs.declared.Word.TheVariants.{Jump, Arith, ArithVar};
+ghost use Rattle.word.specs.declared.Word.TheVariants.{Jump, Arith, ArithVar, MuxAt};
 ghost use Rattle.word.specs.Profile.{LP5523};
+ghost use Rattle.word.specs.Steps.{address_at};
 ghost use Rattle.word.specs.Decode.{choose, ramps, ramp_vars, sums, reading, decode_of};
 
-use word::{
-    Address, ArithOp, ArithVarOp, Coded, Direction, JumpOp, MuxAtOp, MuxMoveOp, Step, Word,
-};
+use word::{Address, ArithOp, ArithVarOp, Direction, JumpOp, MuxAtOp, MuxMoveOp, Step, Word};
 
+// A ramp's direction goes by ranges, as `reading` has it; crate decoder goes by the bit.
 fn ramp_at(code: u16) -> Word
     ensures { result ≡ choose (code % 512) (ramps code) }
 {
     let prescale = code / 16384 % 2;
     let time = code / 512 % 32;
-    if code % 512 < 1 {
+    if code % 512 == 0 {
         return Word::Wait { prescale, time };
-    }
-    let count = code % 256;
-    if code % 512 < 256 {
-        return Word::Ramp {
-            prescale,
-            time,
-            dir: Direction::Up,
-            count,
-        };
     }
     Word::Ramp {
         prescale,
         time,
-        dir: Direction::Down,
-        count,
+        dir: if code % 512 < 256 {
+            Direction::Up
+        } else {
+            Direction::Down
+        },
+        count: code % 256,
     }
 }
 
 fn ramp_var_at(code: u16) -> Word
     ensures { result ≡ choose (code % 32) (ramp_vars code) }
 {
-    let prescale = code / 32 % 2;
-    let time = code / 4 % 4;
-    let count = code % 4;
-    if code % 32 < 16 {
-        return Word::RampVar {
-            prescale,
-            dir: Direction::Up,
-            time,
-            count,
-        };
-    }
     Word::RampVar {
-        prescale,
-        dir: Direction::Down,
-        time,
-        count,
+        prescale: code / 32 % 2,
+        dir: if code % 32 < 16 {
+            Direction::Up
+        } else {
+            Direction::Down
+        },
+        time: code / 4 % 4,
+        count: code % 4,
     }
 }
 
@@ -80,19 +71,13 @@ fn arith_var_at(code: u16, op: ArithVarOp) -> Word
 fn sum_at(code: u16) -> Word
     ensures { result ≡ choose (code % 1024) (sums code) }
 {
-    if code % 1024 < 0x100 {
-        return arith_at(code, ArithOp::Ld);
+    match code % 1024 {
+        ..0x100 => arith_at(code, ArithOp::Ld),
+        ..0x200 => arith_at(code, ArithOp::Add),
+        ..0x300 => arith_at(code, ArithOp::Sub),
+        ..0x310 => arith_var_at(code, ArithVarOp::AddVar),
+        _ => arith_var_at(code, ArithVarOp::SubVar),
     }
-    if code % 1024 < 0x200 {
-        return arith_at(code, ArithOp::Add);
-    }
-    if code % 1024 < 0x300 {
-        return arith_at(code, ArithOp::Sub);
-    }
-    if code % 1024 < 0x310 {
-        return arith_var_at(code, ArithVarOp::AddVar);
-    }
-    arith_var_at(code, ArithVarOp::SubVar)
 }
 
 fn jump_at(code: u16, op: JumpOp) -> Word
@@ -111,16 +96,12 @@ fn from_0(code: u16) -> Word
     requires { code < 0x8000 }
     ensures { result ≡ reading code }
 {
-    if code < 0x0200 {
-        return Word::Rst;
+    match code {
+        ..0x0200 => Word::Rst,
+        ..0x4000 => ramp_at(code),
+        ..0x4200 => Word::Set { value: code % 256 },
+        _ => ramp_at(code),
     }
-    if code < 0x4000 {
-        return ramp_at(code);
-    }
-    if code < 0x4200 {
-        return Word::Set { value: code % 256 };
-    }
-    ramp_at(code)
 }
 
 // Words that begin with 8.
@@ -128,28 +109,27 @@ fn from_8(code: u16) -> Word
     requires { (0x8000 ≤ code) × (code < 0x9000) }
     ensures { result ≡ reading code }
 {
-    if code < 0x8460 {
-        return ramp_var_at(code);
-    }
-    if code < 0x8600 {
-        return Word::SetVar { from: code % 4 };
-    }
-    if code < 0x8800 {
-        return Word::BranchVar {
+    match code {
+        ..0x8460 => ramp_var_at(code),
+        ..0x8600 => Word::SetVar { from: code % 4 },
+        ..0x8800 => Word::BranchVar {
             loops: code % 4,
             step: Step(code / 4 % 128),
-        };
+        },
+        ..0x8A00 => jump_at(code, JumpOp::Jne),
+        ..0x8C00 => jump_at(code, JumpOp::Jl),
+        ..0x8E00 => jump_at(code, JumpOp::Jge),
+        _ => jump_at(code, JumpOp::Je),
     }
-    if code < 0x8A00 {
-        return jump_at(code, JumpOp::Jne);
+}
+
+fn mux_at(code: u16, op: MuxAtOp) -> Word
+    ensures { result ≡ MuxAt op (address_at (code % 128)) }
+{
+    Word::MuxAt {
+        op,
+        address: Address(code % 128),
     }
-    if code < 0x8C00 {
-        return jump_at(code, JumpOp::Jl);
-    }
-    if code < 0x8E00 {
-        return jump_at(code, JumpOp::Jge);
-    }
-    jump_at(code, JumpOp::Je)
 }
 
 // Words that begin with 9.
@@ -157,40 +137,14 @@ fn from_9(code: u16) -> Word
     requires { (0x9000 ≤ code) × (code < 0xA000) }
     ensures { result ≡ reading code }
 {
-    if code < 0x9C00 {
-        return sum_at(code);
-    }
-    let address = Address(code % 128);
-    if code < 0x9C80 {
-        return Word::MuxAt {
-            op: MuxAtOp::MuxMapStart,
-            address,
-        };
-    }
-    if code < 0x9D00 {
-        return Word::MuxAt {
-            op: MuxAtOp::MuxLdEnd,
-            address,
-        };
-    }
-    if code < 0x9E00 {
-        return from_9d(code);
-    }
-    if code < 0x9F00 {
-        return Word::MuxAt {
-            op: MuxAtOp::MuxLdStart,
-            address,
-        };
-    }
-    if code < 0x9F80 {
-        return Word::MuxAt {
-            op: MuxAtOp::MuxLdAddr,
-            address,
-        };
-    }
-    Word::MuxAt {
-        op: MuxAtOp::MuxMapAddr,
-        address,
+    match code {
+        ..0x9C00 => sum_at(code),
+        ..0x9C80 => mux_at(code, MuxAtOp::MuxMapStart),
+        ..0x9D00 => mux_at(code, MuxAtOp::MuxLdEnd),
+        ..0x9E00 => from_9d(code),
+        ..0x9F00 => mux_at(code, MuxAtOp::MuxLdStart),
+        ..0x9F80 => mux_at(code, MuxAtOp::MuxLdAddr),
+        _ => mux_at(code, MuxAtOp::MuxMapAddr),
     }
 }
 
@@ -199,30 +153,15 @@ fn from_9d(code: u16) -> Word
     requires { (0x9D00 ≤ code) × (code < 0x9E00) }
     ensures { result ≡ reading code }
 {
-    if code < 0x9D01 {
-        return Word::MuxClr;
-    }
-    if code < 0x9D80 {
-        return Word::MuxSel { output: code % 128 };
-    }
-    if code < 0x9D81 {
-        return Word::MuxMove {
-            op: MuxMoveOp::MuxMapNext,
-        };
-    }
-    if code < 0x9DC0 {
-        return Word::MuxMove {
-            op: MuxMoveOp::MuxLdNext,
-        };
-    }
-    if code < 0x9DC1 {
-        return Word::MuxMove {
-            op: MuxMoveOp::MuxMapPrev,
-        };
-    }
-    Word::MuxMove {
-        op: MuxMoveOp::MuxLdPrev,
-    }
+    let op = match code {
+        ..0x9D01 => return Word::MuxClr,
+        ..0x9D80 => return Word::MuxSel { output: code % 128 },
+        ..0x9D81 => MuxMoveOp::MuxMapNext,
+        ..0x9DC0 => MuxMoveOp::MuxLdNext,
+        ..0x9DC1 => MuxMoveOp::MuxMapPrev,
+        _ => MuxMoveOp::MuxLdPrev,
+    };
+    Word::MuxMove { op }
 }
 
 // Words that begin with C or D.
@@ -230,15 +169,13 @@ fn from_c(code: u16) -> Word
     requires { (0xC000 ≤ code) × (code < 0xE000) }
     ensures { result ≡ reading code }
 {
-    let int = code / 4096 % 2;
-    let reset = code / 2048 % 2;
-    if code < 0xC400 {
-        return Word::End { int, reset };
-    }
-    if code < 0xC401 {
+    if code == 0xC400 {
         return Word::Int;
     }
-    Word::End { int, reset }
+    Word::End {
+        int: code / 4096 % 2,
+        reset: code / 2048 % 2,
+    }
 }
 
 // The word that a code's place in the table promises, its operands read from their bits.
@@ -262,13 +199,14 @@ fn read(code: u16) -> Word
 }
 
 // The word that 16 bits are; Undefined where no word has them.
+#[tactic(auto, unfolding(word::specs::Decode::decode_of))]
 pub fn decode(code: u16) -> Word
     ensures { result ≡ decode_of LP5523 code }
 {
     let word = read(code);
-    match encoder::encode(word) {
-        Coded::Code(again) => { if again == code { word } else { Word::Undefined } }
-        Coded::OutsideField => Word::Undefined,
-        Coded::UndefinedWord => Word::Undefined,
+    if encoder::encode(word) == Ok(code) {
+        word
+    } else {
+        Word::Undefined
     }
 }

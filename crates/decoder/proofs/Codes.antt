@@ -37,9 +37,5 @@ module _ (w : ℕ) where
   pub sum_var_key : w / 256 % 4 ≡ 3 → w % 1024 ≡ 0x300 + 16 * (w / 16 % 16) + w % 16
   sum_var_key e = omega (arith, by 16 16, by 256 4, e)
 
-  -- a page and its halves
-  pub halves : w / 128 / 2 ≡ w / 256
-  halves = by 128 2
-
   pub trigger_code : 0xE000 ≤ w → w < 0x10000 → w % 2 ≡ 0 → 0xE000 + 128 * (w / 128 % 64) + 2 * (w / 2 % 64) ≡ w
   trigger_code p q e = omega (arith, by 2 64, by 128 64)

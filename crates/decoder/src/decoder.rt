@@ -1,23 +1,13 @@
 // From 16 bits to an instruction word. The leading four bits choose the function that knows the rows
 // of the table that begin so; it tests their ranges and reserved bits.
-ghost use Rattle.std.specs.Prelude.{◌≡◌, ◌/◌, ◌%◌, ◌≤◌, ◌<◌, cond, eqb};
-ghost use Rattle.word.specs.declared.Direction.TheVariants.{Up, Down};
-ghost use Rattle.word.specs.declared.Word.TheVariants.{Jump, Arith, ArithVar, MuxAt};
+#![tactic(auto, using(crate::proofs::Rows::rows, crate::proofs::Gaps::gaps))]
+
+ghost use Rattle.std.specs.Prelude.{◌≡◌, ◌+◌, ◌*◌, ◌/◌, ◌%◌, ◌≤◌, ◌<◌};
 ghost use Rattle.word.specs.Profile.{LP5523};
-ghost use Rattle.word.specs.Steps.{address_at};
+ghost use Rattle.word.specs.Table.{jump_base, arith_base, arith_var_base, mux_at_base};
 ghost use Rattle.word.specs.Decode.{decode_of};
 
 use word::{Address, ArithOp, ArithVarOp, Direction, JumpOp, MuxAtOp, MuxMoveOp, Step, Word};
-
-// The sign of a ramp.
-fn direction(bit: u16) -> Direction
-    ensures { result ≡ cond (eqb bit 0) Up Down }
-{
-    if bit == 0 {
-        return Direction::Up;
-    }
-    Direction::Down
-}
 
 // Words that begin with 0 to 7: with a time they are wait and ramp.
 fn from_0(code: u16) -> Word
@@ -27,13 +17,11 @@ fn from_0(code: u16) -> Word
     let prescale = code / 16384;
     let time = code / 512 % 32;
     if time == 0 {
-        if code == 0 {
-            return Word::Rst;
-        }
-        if code / 256 == 0x40 {
-            return Word::Set { value: code % 256 };
-        }
-        return Word::Undefined;
+        return match code {
+            0x0000 => Word::Rst,
+            0x4000..=0x40FF => Word::Set { value: code % 256 },
+            _ => Word::Undefined,
+        };
     }
     if code % 512 == 0 {
         return Word::Wait { prescale, time };
@@ -41,7 +29,7 @@ fn from_0(code: u16) -> Word
     Word::Ramp {
         prescale,
         time,
-        dir: direction(code / 256 % 2),
+        dir: Direction::of_sign(code / 256 % 2),
         count: code % 256,
     }
 }
@@ -51,22 +39,22 @@ fn from_84(code: u16) -> Word
     requires { (0x8400 ≤ code) × (code < 0x8600) }
     ensures { result ≡ decode_of LP5523 code }
 {
-    if code < 0x8440 {
-        return Word::RampVar {
+    match code {
+        0x8400..=0x843F => Word::RampVar {
             prescale: code / 32 % 2,
-            dir: direction(code / 16 % 2),
+            dir: Direction::of_sign(code / 16 % 2),
             time: code / 4 % 4,
             count: code % 4,
-        };
+        },
+        0x8460..=0x8463 => Word::SetVar { from: code % 4 },
+        _ => Word::Undefined,
     }
-    if code / 4 == 0x2118 {
-        return Word::SetVar { from: code % 4 };
-    }
-    Word::Undefined
 }
 
+// The rows with an op, where a code's leading bits are the op's base.
 fn jump_at(code: u16, op: JumpOp) -> Word
-    ensures { result ≡ Jump op (code / 16 % 32) (code / 4 % 4) (code % 4) }
+    requires { jump_base op ≡ 512 * (code / 512) }
+    ensures { result ≡ decode_of LP5523 code }
 {
     Word::Jump {
         op,
@@ -95,8 +83,11 @@ fn from_8(code: u16) -> Word
     }
 }
 
+// A type with the range as its fact would have to be made at each call.
 fn arith_at(code: u16, op: ArithOp) -> Word
-    ensures { result ≡ Arith op (code / 1024 % 4) (code % 256) }
+    requires within { (0x9000 ≤ code) × (code < 0x9C00) }
+    requires base { arith_base op ≡ 0x9000 + 256 * (code / 256 % 4) }
+    ensures { result ≡ decode_of LP5523 code }
 {
     Word::Arith {
         op,
@@ -106,7 +97,9 @@ fn arith_at(code: u16, op: ArithOp) -> Word
 }
 
 fn arith_var_at(code: u16, op: ArithVarOp) -> Word
-    ensures { result ≡ ArithVar op (code / 1024 % 4) (code / 4 % 4) (code % 4) }
+    requires within { (0x9000 ≤ code) × (code < 0x9C00) × (code / 256 % 4 ≡ 3) }
+    requires base { arith_var_base op ≡ 0x9300 + 16 * (code / 16 % 16) }
+    ensures { result ≡ decode_of LP5523 code }
 {
     Word::ArithVar {
         op,
@@ -149,8 +142,7 @@ fn from_9d(code: u16) -> Word
     let low = code % 256;
     match low {
         0 => Word::MuxClr,
-        1..=9 => Word::MuxSel { output: low },
-        16 => Word::MuxSel { output: low },
+        1..=9 | 16 => Word::MuxSel { output: low },
         0x80 => Word::MuxMove {
             op: MuxMoveOp::MuxMapNext,
         },
@@ -168,7 +160,9 @@ fn from_9d(code: u16) -> Word
 }
 
 fn mux_at(code: u16, op: MuxAtOp) -> Word
-    ensures { result ≡ MuxAt op (address_at (code % 128)) }
+    requires base { mux_at_base op ≡ 128 * (code / 128) }
+    requires within { code % 128 < 96 }
+    ensures { result ≡ decode_of LP5523 code }
 {
     Word::MuxAt {
         op,
@@ -177,7 +171,7 @@ fn mux_at(code: u16, op: MuxAtOp) -> Word
 }
 
 // Mapping words: those with an address by bits 9:7.
-fn mux(code: u16) -> Word
+fn from_9c(code: u16) -> Word
     requires { (0x9C00 ≤ code) × (code < 0xA000) }
     ensures { result ≡ decode_of LP5523 code }
 {
@@ -202,16 +196,14 @@ fn from_c(code: u16) -> Word
     requires { (0xC000 ≤ code) × (code < 0xE000) }
     ensures { result ≡ decode_of LP5523 code }
 {
-    if code % 2048 == 0 {
-        return Word::End {
+    match code {
+        0xC000 | 0xC800 | 0xD000 | 0xD800 => Word::End {
             int: code / 4096 % 2,
             reset: code / 2048 % 2,
-        };
+        },
+        0xC400 => Word::Int,
+        _ => Word::Undefined,
     }
-    if code == 0xC400 {
-        return Word::Int;
-    }
-    Word::Undefined
 }
 
 // Words that begin with E or F: bits 3 and 4 of both fields and bit 0 are reserved.
@@ -221,13 +213,7 @@ fn from_e(code: u16) -> Word
 {
     let wait = code / 128 % 64;
     let send = code / 2 % 64;
-    if wait / 8 % 4 != 0 {
-        return Word::Undefined;
-    }
-    if send / 8 % 4 != 0 {
-        return Word::Undefined;
-    }
-    if code % 2 != 0 {
+    if wait / 8 % 4 != 0 || send / 8 % 4 != 0 || code % 2 != 0 {
         return Word::Undefined;
     }
     Word::Trigger { wait, send }
@@ -243,7 +229,7 @@ pub fn decode(code: u16) -> Word
         // by the variable that is written; 3 is none. A match, since the code compiled from an `if` is
         // slower (bench/README.md)
         9 => match code / 1024 % 4 {
-            3 => mux(code),
+            3 => from_9c(code),
             _ => sum_at(code),
         },
         10..=11 => Word::Branch {

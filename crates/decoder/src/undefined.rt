@@ -7,8 +7,5 @@ use word::Word;
 pub fn is_undefined(word: Word) -> bool
     ensures { result ≡ is_undefined word }
 {
-    if let Word::Undefined = word {
-        return true;
-    }
-    false
+    matches!(word, Word::Undefined)
 }

@@ -7,14 +7,14 @@ use native.Mathlib.Numerals.{add-one}
 use native.Mathlib.Omega.{arith}
 use lib.ListN.{length, get_or, drop, drop_of_length-le}
 use lib.Seq.{drop-cons}
-use Rattle.plan.specs.Verdict.{report, report_of, is_accept}
+use Rattle.plan.specs.Verdict.{report, report_of}
 use Rattle.text.specs.Bytes.{line_feed}
 use Rattle.word.specs.Profile.{Profile, LP5523}
 use Rattle.plan.specs.declared.EnginePlan.{EnginePlan}
 use Rattle.plan.specs.declared.EnginePlan.TheVariants.{Unused, CodeOnly, CodeAndTable}
 use Rattle.plan.specs.declared.Plan.{Plan}
-use Rattle.plan.specs.declared.Verdict.{Verdict}
-use Rattle.plan.specs.declared.Verdict.TheVariants.{Accept}
+use Rattle.plan.specs.declared.CheckError.{CheckError}
+use Rattle.std.proofs.Common.{Ok, Err}
 use Rattle.plan.specs.Ranges.{engine_plans}
 use Rattle.plan.specs.Tests.{in_code}
 use Rattle.grammar.specs.declared.LineKind.TheVariants.{Op, Row, Spare}
@@ -22,7 +22,7 @@ use Rattle.grammar.specs.declared.LineKind.{LineKind}
 use Rattle.grammar.specs.declared.LineKind.TheVariants as kind
 use Rattle.grammar.specs.Form.{continued, write_form}
 use Rattle.grammar.specs.Grammar.{plan_form, word_form, write_parts, write_line}
-use Rattle.grammar.specs.Values.{values_of, list_of}
+use Rattle.grammar.specs.Values.{values_of}
 use Rattle.op_lines.specs.Lines.{over}
 use Rattle.asm.specs.Places.{in_table, any_has, line_kind_at}
 use Rattle.asm.specs.PlanLines.{plan_values}
@@ -33,8 +33,8 @@ use Rattle.disassembler.specs.internal.Walks.{IsWordLine}
 -- ---- lines
 
 -- values past those that a plan has are not written
-pub plan_line : (i : ℕ) (q : EnginePlan) → write_line LP5523 (kind.Plan i) (list_of (values_of (plan_values i q))) ≡ write_line LP5523 (kind.Plan i) (plan_values i q)
-unfolding write_line write_parts write_form continued plan_form list_of values_of
+pub plan_line : (i : ℕ) (q : EnginePlan) → write_line LP5523 (kind.Plan i) (values_of (plan_values i q)) ≡ write_line LP5523 (kind.Plan i) (plan_values i q)
+unfolding write_line write_parts write_form continued plan_form values_of
 plan_line i Unused = refl
 plan_line i (CodeOnly f l) = refl
 plan_line i (CodeAndTable f l t b) = refl
@@ -99,18 +99,14 @@ sheet_text p image =
 -- ---- the writer's answers, and the lent bytes afterwards
 
 module _ (P : Profile) (p : Plan) (image old : List ℕ) where
-  pub refused : {v : Verdict} → v ≡ writable_of P p image → is_accept v ≡ false
-      → (unwritten (report_of v) ≡ disassemble_of P p image (length old)) × (old ≡ bytes_after P p image old)
-  refused {v} is h =
-      let e = objected P p image (length old) (ap is_accept (sym is) ∙ h) in (
-        ap (λ (x : Verdict). unwritten (report_of x)) is ∙ sym e,
-        bytes_kept P p image old e (refusal_number (writable_of P p image) (ap is_accept (sym is) ∙ h)),
-      )
+  pub refused : {e : CheckError} → writable_of P p image ≡ Err e
+      → (unwritten (report_of (Err e)) ≡ disassemble_of P p image (length old)) × (old ≡ bytes_after P p image old)
+  refused {e} is = let o = objected P p image (length old) is in (sym o, bytes_kept P p image old o (refusal_number e))
 
-  pub no_room : writable_of P p image ≡ Accept → length old < length (sheet_of P p image)
+  pub no_room : writable_of P p image ≡ Ok tt → length old < length (sheet_of P p image)
       → (unwritten (report 24 0 0) ≡ disassemble_of P p image (length old)) × (old ≡ bytes_after P p image old)
   no_room h l = let e = without_room P p image (length old) h l in (sym e, bytes_kept P p image old e (λ z. omega arith))
 
-  pub with_room : writable_of P p image ≡ Accept → length (sheet_of P p image) ≤ length old
+  pub with_room : writable_of P p image ≡ Ok tt → length (sheet_of P p image) ≤ length old
       → (wrote (length (sheet_of P p image)) ≡ disassemble_of P p image (length old)) × (over (sheet_of P p image) old ≡ bytes_after P p image old)
   with_room h l = let e = given_room P p image (length old) h l in (sym e, bytes_written_lem P p image old e refl)

@@ -1,13 +1,10 @@
 -- What is known of the word that an engine fetches: where it stands, that its operands are small, and that past the memory it is rst.
-use Rattle.std.proofs.Common.{◌≡◌, ℕ, ◌<◌, ◌≤◌, false, ltb, List, length, sym, refl, ap, ◌∙◌, subst, arith, ltb-false, ltb-true}
+use Rattle.std.proofs.Common.{◌≡◌, ℕ, ◌≤◌, List, length, sym, refl, ap, ◌∙◌, arith}
 use lib.ListN.{get_or-eq_default}
-use Rattle.laws.proofs.Tests.{by_cond}
 use Rattle.word.specs.Profile.{LP5523}
 use Rattle.word.specs.Decode.{reading, decode_of, word_at}
 use Rattle.word.specs.declared.Direction.TheVariants.{Up, Down}
 use Rattle.word.specs.Steps.{step_at}
-use Rattle.word.specs.declared.Step.{Step}
-use Rattle.word.specs.declared.Address.{Address}
 use Rattle.word.specs.declared.Word.{Word}
 use Rattle.word.specs.declared.Word.TheVariants.{Rst, Ramp, Wait, Set, RampVar, SetVar, BranchVar, Jump, Arith, ArithVar, MuxAt, MuxClr, MuxSel, MuxMove, Branch, End, Int, Trigger, Undefined}
 use Rattle.word.proofs.Theorems.{operands_within}
@@ -19,7 +16,6 @@ use Rattle.machine.specs.WordEnd.{ends}
 use Rattle.machine.specs.Words.{begins}
 use Rattle.machine.specs.Turn.{address_of, returned, starts}
 use Rattle.engine.specs.internal.Operands.{Small}
-use Rattle.engine.specs.internal.Fetches.{fetch_at}
 
 pub small : (x : ℕ) (w : Word) → decode_of LP5523 x ≡ w → Small w
 small x Rst q = tt
@@ -50,18 +46,11 @@ zero_is_rst = refl
 pub past : (memory : List ℕ) (a : ℕ) → length memory ≡ 96 → 96 ≤ a → word_at LP5523 memory a ≡ Rst
 past memory a n h = ap (decode_of LP5523) (get_or-eq_default memory 0 {n = a} (omega arith)) ∙ zero_is_rst
 
--- where an engine's word stands
-pub fetch_below : (start : Address) (pc : Step) {at : ℕ} → at ≡ fetch_at start pc → at < 96
-fetch_below start pc e =
-    subst (λ (n : ℕ). n < 96) (sym e)
-    (by_cond (λ (n : ℕ). n < 96) (ltb (address_of start pc) 96) (λ t. ltb-true _ _ t) (λ t. by_cond (λ (n : ℕ). n < 96) (ltb start.0 96) (λ u. ltb-true _ _ u) (λ u. omega arith)))
-
 -- the first beat of a word, from what the code computes of it; e' is the engine as it fetches
-module _ (c d : ℕ) (memory : List ℕ) (e : Engine) {e' : Engine} {t : BeatResult} where
-  pub starts_past : length memory ≡ 96 → ltb e'.start.0 (length memory) ≡ false → e' ≡ returned LP5523 e → t ≡ ends c (with_loops (zero_counts LP5523) e') Keep 0 (step_at 0) → t ≡ starts LP5523 c d memory (returned LP5523 e)
-  unfolding begins
-  starts_past l h r g =
-      let n = ltb-false e'.start.0 (length memory) h in
-      g
-      ∙ sym (ap (begins LP5523 c d memory e' (address_of e'.start e'.pc)) (past memory (address_of e'.start e'.pc) l (omega arith)))
-      ∙ ap (starts LP5523 c d memory) r
+pub starts_past : (c d : ℕ) (memory : List ℕ) (e : Engine) {e' : Engine} {t : BeatResult} → length memory ≡ 96 → 96 ≤ address_of e'.start e'.pc → e' ≡ returned LP5523 e → t ≡ ends c (with_loops (zero_counts LP5523) e') Keep 0 (step_at 0) →
+    t ≡ starts LP5523 c d memory (returned LP5523 e)
+unfolding begins
+starts_past c d memory e {e'} l h r g =
+    g
+    ∙ sym (ap (begins LP5523 c d memory e' (address_of e'.start e'.pc)) (past memory (address_of e'.start e'.pc) l h))
+    ∙ ap (starts LP5523 c d memory) r

@@ -1,14 +1,11 @@
 -- The engines of a chip, from their cores and branch counts.
-use Rattle.std.proofs.Common.{◌≡◌, ℕ, zero, suc, ◌<◌, List, [], ◌∷◌, length, get_or, set, sym, refl, ap, ◌∙◌, ap₂, arith}
+use Rattle.std.proofs.Common.{◌≡◌, ℕ, zero, suc, ◌+◌, ◌<◌, List, [], ◌∷◌, length, get_or, set, sym, refl, ap, ◌∙◌, ap₂, arith}
 use Rattle.machine.specs.declared.Engine.{Engine}
 use Rattle.engine_core.specs.declared.EngineCore.{EngineCore}
 use Rattle.engine_core.specs.Core.{engine_of}
 use Rattle.engine_core.proofs.Three.{three}
 use Rattle.engine.specs.Parts.{engines_from}
-
--- a list of three, by its elements
-pub same_three : {x y z x' y' z' : Engine} → x ≡ x' → y ≡ y' → z ≡ z' → ◌≡◌ {A = List Engine} (x ∷ (y ∷ (z ∷ []))) (x' ∷ (y' ∷ (z' ∷ [])))
-same_three p q r = ap₂ (λ (x : Engine) (xs : List Engine). x ∷ xs) p (ap₂ (λ (x y : Engine). x ∷ (y ∷ [])) q r)
+use Rattle.engine.proofs.Loops.{each_to, one_place_more}
 
 pub from_three : (d : EngineCore) (ks : List EngineCore) (cs : List (List ℕ)) → length ks ≡ 3 → length cs ≡ 3 →
     engines_from ks cs ≡ engine_of (get_or ks 0 d) (get_or cs 0 []) ∷ (engine_of (get_or ks 1 d) (get_or cs 1 []) ∷ (engine_of (get_or ks 2 d) (get_or cs 2 []) ∷ []))
@@ -36,7 +33,10 @@ set_same [] i d = refl
 set_same (x ∷ xs) zero d = refl
 set_same (x ∷ xs) (suc i) d = ap (λ l. x ∷ l) (set_same xs i d)
 
--- a core changed, and not its branch counts
-pub core_set : (ks : List EngineCore) (cs : List (List ℕ)) (i : ℕ) (k : EngineCore) → length ks ≡ length cs →
-    engines_from (set ks i k) cs ≡ set (engines_from ks cs) i (engine_of k (get_or cs i []))
-core_set ks cs i k l = ap (engines_from (set ks i k)) (sym (set_same cs i [])) ∙ engine_set ks cs i k (get_or cs i []) l
+-- the core at i stored changed is one engine more of those changed, where the branch counts stay
+pub one_engine_more : (f : ℕ → Engine → Engine) (d : EngineCore) (ks : List EngineCore) (cs : List (List ℕ)) (i : ℕ) (k : EngineCore) (es : List Engine) → i < length ks → length ks ≡ length cs →
+    engine_of k (get_or cs i []) ≡ f i (engine_of (get_or ks i d) (get_or cs i [])) → engines_from ks cs ≡ each_to f i 0 es → engines_from (set ks i k) cs ≡ each_to f (i + 1) 0 es
+one_engine_more f d ks cs i k es q l h e =
+    ap (engines_from (set ks i k)) (sym (set_same cs i []))
+    ∙ engine_set ks cs i k (get_or cs i []) l
+    ∙ one_place_more f i es (engines_from ks cs) (engine_of k (get_or cs i [])) (engine_of d []) e (h ∙ ap (f i) (sym (engine_at_lem d (engine_of d []) ks cs i q l)))

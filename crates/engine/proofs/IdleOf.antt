@@ -1,6 +1,7 @@
 -- A beat in which all engines idle.
-use Rattle.std.proofs.Common.{◌≡◌, ℕ, ◌-◌, Bool, true, false, cond, not, ◌||◌, ltb, List, [], ◌∷◌, map, length, get_or, set, sym, ap, ◌∙◌, arith, ltb-true}
+use Rattle.std.proofs.Common.{◌≡◌, ℕ, ◌-◌, Bool, true, false, cond, not, ◌||◌, ltb, ◌&&◌, List, [], ◌∷◌, map, length, set, sym, refl, ap, ap₂, ◌∙◌, arith, ltb-true}
 use mathlib.Core.Bool.{false≢true}
+use Rattle.std.specs.List.{list_all, list_any}
 use borrow.Author.Tests.{lt-leb}
 use Rattle.laws.proofs.Tests.{by_test, and_left, and_right}
 use Rattle.word.specs.Profile.{LP5523}
@@ -15,13 +16,13 @@ use Rattle.machine.specs.Parts.{zero_engine, engine_at, with_progress, with_engi
 use Rattle.machine.specs.WordEnd.{lasts, goes_on}
 use Rattle.machine.specs.Durations.{waits}
 use Rattle.machine.specs.Turn.{acts, beat_of, applied, turn}
-use Rattle.machine.specs.Tick.{turns}
+use Rattle.machine.specs.Tick.{some, turns}
 use Rattle.machine.proofs.Safety.{turn_acts, turn_rests}
 use Rattle.engine_core.specs.Core.{engine_of}
 use Rattle.engine_core.specs.declared.EngineCore.{EngineCore}
 use Rattle.engine.specs.Parts.{engines_from}
-use Rattle.engine.specs.internal.Idle.{left_of, wait_left, idles, all_idle, idled}
-use Rattle.engine.proofs.Engines.{set_same, same_three}
+use Rattle.engine.specs.internal.Idle.{left_of, wait_left, idles, all_idle, idled, core_idled}
+use Rattle.engine.proofs.Engines.{set_same}
 use Rattle.engine.proofs.TurnOf.{applied_alone, three_turns}
 
 -- a wait that goes on
@@ -85,18 +86,22 @@ idle_beat m l h = go m.engines l h
     go (x ∷ (y ∷ [])) l h = absurd (omega arith)
     go (x ∷ (y ∷ (z ∷ (e ∷ es)))) l h = absurd (omega arith)
 
--- the engines after a beat in which all idle, from what the code puts in their places
-pub all_idled : (d : EngineCore) (ks : List EngineCore) (cs : List (List ℕ)) → length ks ≡ 3 → length cs ≡ 3 → (a b c : EngineCore) →
-    ((counts : List ℕ) → engine_of a counts ≡ idled (engine_of (get_or ks 0 d) counts)) →
-    ((counts : List ℕ) → engine_of b counts ≡ idled (engine_of (get_or (set ks 0 a) 1 d) counts)) →
-    ((counts : List ℕ) → engine_of c counts ≡ idled (engine_of (get_or (set (set ks 0 a) 1 b) 2 d) counts)) →
-    engines_from (set (set (set ks 0 a) 1 b) 2 c) cs ≡ map idled (engines_from ks cs)
-all_idled d (x ∷ (y ∷ (z ∷ []))) (p ∷ (q ∷ (r ∷ []))) k l a b c e f g = same_three (e p) (f q) (g r)
-all_idled d [] cs k l a b c e f g = absurd (omega arith)
-all_idled d (x ∷ []) cs k l a b c e f g = absurd (omega arith)
-all_idled d (x ∷ (y ∷ [])) cs k l a b c e f g = absurd (omega arith)
-all_idled d (x ∷ (y ∷ (z ∷ (w ∷ ws)))) cs k l a b c e f g = absurd (omega arith)
-all_idled d (x ∷ (y ∷ (z ∷ []))) [] k l a b c e f g = absurd (omega arith)
-all_idled d (x ∷ (y ∷ (z ∷ []))) (p ∷ []) k l a b c e f g = absurd (omega arith)
-all_idled d (x ∷ (y ∷ (z ∷ []))) (p ∷ (q ∷ [])) k l a b c e f g = absurd (omega arith)
-all_idled d (x ∷ (y ∷ (z ∷ []))) (p ∷ (q ∷ (r ∷ (s ∷ ss)))) k l a b c e f g = absurd (omega arith)
+-- what the code asks of the cores, and makes of them
+pub all_cores_idle : (ks : List EngineCore) (cs : List (List ℕ)) → length ks ≡ length cs → list_all (λ (k : EngineCore). idles (engine_of k [])) ks ≡ all_idle (engines_from ks cs)
+all_cores_idle [] cs h = refl
+all_cores_idle (k ∷ ks) [] h = absurd (omega arith)
+all_cores_idle (k ∷ ks) (c ∷ cs) h = ap (λ (b : Bool). idles (engine_of k []) && b) (all_cores_idle ks cs (omega arith))
+
+pub some_core_acts : (ks : List EngineCore) (cs : List (List ℕ)) → length ks ≡ length cs → list_any (λ (k : EngineCore). acts (engine_of k [])) ks ≡ some acts (engines_from ks cs)
+some_core_acts [] cs h = refl
+some_core_acts (k ∷ ks) [] h = absurd (omega arith)
+some_core_acts (k ∷ ks) (c ∷ cs) h = ap (λ (b : Bool). acts (engine_of k []) || b) (some_core_acts ks cs (omega arith))
+
+pub cores_idled : (ks : List EngineCore) (cs : List (List ℕ)) → engines_from (map core_idled ks) cs ≡ map idled (engines_from ks cs)
+cores_idled [] cs = refl
+cores_idled (k ∷ ks) [] = refl
+cores_idled (k ∷ ks) (c ∷ cs) = ap₂ (λ (e : Engine) (es : List Engine). e ∷ es) (one (ltb 0 (wait_left (engine_of k [])))) (cores_idled ks cs)
+  where
+    one : (b : Bool) → engine_of (cond b (record k { progress = Waiting (wait_left (engine_of k [])) }) k) c ≡ cond b (with_progress (Waiting (wait_left (engine_of k c))) (engine_of k c)) (engine_of k c)
+    one true = refl
+    one false = refl

@@ -26,22 +26,22 @@ use Rattle.engine.proofs.IdleOf.{idle_beat}
 use Rattle.engine.proofs.TurnOf.{counted, Acted, turned}
 
 -- no beat follows where no engine acts
-pub span_quiet : (n : ℕ) (s : Span) → some acts s.chip.engines ≡ false → span_of n s ≡ s
+pub span_quiet : (n : ℕ) (s : Span Chip) → some acts s.after.engines ≡ false → span_of n s ≡ s
 unfolding span_of
 span_quiet zero s q = refl
 span_quiet (suc n) s q = ap (λ (b : Bool). cond b (span_of n (one_beat_more s)) s) q
 
-pub span_done : (n : ℕ) (s : Span) → n ≡ 0 → span_of n s ≡ s
+pub span_done : (n : ℕ) (s : Span Chip) → n ≡ 0 → span_of n s ≡ s
 unfolding span_of
 span_done zero s h = refl
 span_done (suc n) s h = absurd (omega arith)
 
-pub span_busy : (n : ℕ) (s : Span) → some acts s.chip.engines ≡ true → span_of (suc n) s ≡ span_of n (one_beat_more s)
+pub span_busy : (n : ℕ) (s : Span Chip) → some acts s.after.engines ≡ true → span_of (suc n) s ≡ span_of n (one_beat_more s)
 unfolding span_of
 span_busy n s q = ap (λ (b : Bool). cond b (span_of n (one_beat_more s)) s) q
 
 -- one beat on
-pub span_on : (most beats : ℕ) (s s' : Span) → beats < most → some acts s.chip.engines ≡ true → s' ≡ one_beat_more s → span_of (most - (beats + 1)) s' ≡ span_of (most - beats) s
+pub span_on : (most beats : ℕ) (s s' : Span Chip) → beats < most → some acts s.after.engines ≡ true → s' ≡ one_beat_more s → span_of (most - (beats + 1)) s' ≡ span_of (most - beats) s
 span_on most beats s s' h q e =
     let n : suc (most - (beats + 1)) ≡ most - beats = omega arith in
     ap (span_of (most - (beats + 1))) e ∙ sym (span_busy (most - (beats + 1)) s q) ∙ ap (λ (j : ℕ). span_of j s) n
@@ -52,25 +52,25 @@ tally_from i [] ws = ws
 tally_from i (b ∷ bs) ws = tally_from (suc i) bs (counted ws i b)
 
 -- The beat that s has begun, with the turns of n engines to come, from engine i on.
-abbrev pub rest : ℕ → ℕ → Span → Span
+abbrev pub rest : ℕ → ℕ → Span Chip → Span Chip
 rest n i s =
-    let t = turns LP5523 n i s.chip in
-    record { chip = t.chip; pin = s.pin || t.pin; beats = s.beats + 1; words = tally_from i t.ended s.words }
+    let t = turns LP5523 n i s.after in
+    record { after = t.chip; pin = s.pin || t.pin; beats = s.beats + 1; words = tally_from i t.ended s.words }
 
-pub one_turn : (n i : ℕ) (s : Span) (t : TurnResult) → t ≡ turn LP5523 i s.chip →
-    rest n (suc i) (record { chip = t.chip; pin = s.pin || to_pin t.send; beats = s.beats; words = counted s.words i t.ended }) ≡ rest (suc n) i s
+pub one_turn : (n i : ℕ) (s : Span Chip) (t : TurnResult) → t ≡ turn LP5523 i s.after →
+    rest n (suc i) (record { after = t.chip; pin = s.pin || to_pin t.send; beats = s.beats; words = counted s.words i t.ended }) ≡ rest (suc n) i s
 unfolding turns
 one_turn n i s t e =
-    ap (λ (u : TurnResult). rest n (suc i) (record { chip = u.chip; pin = s.pin || to_pin u.send; beats = s.beats; words = counted s.words i u.ended })) e
-    ∙ ap (λ (b : Bool). record { chip = (turns LP5523 n (suc i) u.chip).chip; pin = b; beats = s.beats + 1; words = tally_from (suc i) (turns LP5523 n (suc i) u.chip).ended (counted s.words i u.ended) })
+    ap (λ (u : TurnResult). rest n (suc i) (record { after = u.chip; pin = s.pin || to_pin u.send; beats = s.beats; words = counted s.words i u.ended })) e
+    ∙ ap (λ (b : Bool). record { after = (turns LP5523 n (suc i) u.chip).chip; pin = b; beats = s.beats + 1; words = tally_from (suc i) (turns LP5523 n (suc i) u.chip).ended (counted s.words i u.ended) })
     (or_assoc s.pin (to_pin u.send) (turns LP5523 n (suc i) u.chip).pin)
   where
     u : TurnResult
-    u = turn LP5523 i s.chip
+    u = turn LP5523 i s.after
 
 -- where the code stands
-abbrev pub at : Fixed → List EngineCore → ℕ → Bool → List ℕ → ℕ → List ℕ → List (List ℕ) → Span
-at f cores c pin words beats levels counts = spanned f (record { cores = record { c = c; engines = cores }; pin = pin; beats = beats; words = words }) levels counts
+abbrev pub at : Fixed → List EngineCore → ℕ → Bool → List ℕ → ℕ → List ℕ → List (List ℕ) → Span Chip
+at f cores c pin words beats levels counts = spanned f (record { after = record { c = c; engines = cores }; pin = pin; beats = beats; words = words }) levels counts
 
 -- engine i has taken its turn
 pub turn_taken : (d : EngineCore) {c D : ℕ} {memory : List ℕ} {ks : List EngineCore} {cs : List (List ℕ)} {ws : List ℕ} {i : ℕ} {c' : ℕ} {ks' : List EngineCore} {cs' : List (List ℕ)} {ws' : List ℕ} {effect : Effect} {send : ℕ}
@@ -86,13 +86,13 @@ turn_taken d {c} {ks = ks} {cs = cs} {ws = ws} {i = i} {c' = c'} {cs' = cs'} {se
     (turned d A f p q (omega arith) (k ∙ sym l) held levels after received g a r)
     ∙ ap (λ (x : ℕ). rest x i (at f ks c pin ws beats levels cs)) (sym n)
 
-whole_beat : (s : Span) → length s.words ≡ 3 → s.pin ≡ false → rest 3 0 s ≡ one_beat_more s
+whole_beat : (s : Span Chip) → length s.words ≡ 3 → s.pin ≡ false → rest 3 0 s ≡ one_beat_more s
 unfolding turns
 whole_beat s l p =
-    ap₂ (λ (b : Bool) (ws : List ℕ). record { chip = t.chip; pin = b; beats = s.beats + 1; words = ws }) (ap (λ (b : Bool). b || t.pin) p) (go s.words l)
+    ap₂ (λ (b : Bool) (ws : List ℕ). record { after = t.chip; pin = b; beats = s.beats + 1; words = ws }) (ap (λ (b : Bool). b || t.pin) p) (go s.words l)
   where
     t : TickResult
-    t = turns LP5523 3 0 s.chip
+    t = turns LP5523 3 0 s.after
 
     go : (ws : List ℕ) → length ws ≡ 3 → tally_from 0 t.ended ws ≡ tally t.ended ws
     go ws l = ap (tally_from 0 t.ended) (three 0 ws l) ∙ sym (ap (tally t.ended) (three 0 ws l))
@@ -111,18 +111,18 @@ idle_taken d f ks ks' c pin ws beats levels cs k l n h e =
     none : List Bool
     none = false ∷ (false ∷ (false ∷ []))
 
-    of : TickResult → List ℕ → Span
-    of t w = record { chip = t.chip; pin = t.pin; beats = beats + 1; words = w }
+    of : TickResult → List ℕ → Span Chip
+    of t w = record { after = t.chip; pin = t.pin; beats = beats + 1; words = w }
 
     none_more : (w : List ℕ) → length w ≡ 3 → w ≡ tally none w
     none_more w n = three 0 w n ∙ sym (ap (tally none) (three 0 w n))
 
 -- all turns are done
-pub beat_done : (i : ℕ) (s s₀ : Span) → i ≡ 3 → rest (3 - i) i s ≡ rest 3 0 s₀ → length s₀.words ≡ 3 → s₀.pin ≡ false →
-    record { chip = s.chip; pin = s.pin; beats = s.beats + 1; words = s.words } ≡ one_beat_more s₀
+pub beat_done : (i : ℕ) (s s₀ : Span Chip) → i ≡ 3 → rest (3 - i) i s ≡ rest 3 0 s₀ → length s₀.words ≡ 3 → s₀.pin ≡ false →
+    record { after = s.after; pin = s.pin; beats = s.beats + 1; words = s.words } ≡ one_beat_more s₀
 unfolding turns
 beat_done i s s₀ e h l p =
-    ap (λ (b : Bool). record { chip = s.chip; pin = b; beats = s.beats + 1; words = s.words }) (sym (or_false s.pin))
+    ap (λ (b : Bool). record { after = s.after; pin = b; beats = s.beats + 1; words = s.words }) (sym (or_false s.pin))
     ∙ ap (λ (j : ℕ). rest (3 - j) j s) (sym e) ∙ h ∙ whole_beat s₀ l p
 
 -- no engine finishes more words than there were beats: engines from i on have not had their turns in this one

@@ -1,8 +1,8 @@
 -- A turn, from what the code computes of it.
-use Rattle.std.proofs.Common.{◌≡◌, ℕ, ◌+◌, ◌%◌, ◌^◌, ◌<◌, Bool, true, false, cond, not, ◌&&◌, ◌||◌, eqb, List, [], ◌∷◌, map, length, get_or, set, sym, ap, ◌∙◌, ap₂, arith, length-set}
+use Rattle.std.proofs.Common.{◌≡◌, ℕ, ◌+◌, ◌%◌, ◌^◌, ◌<◌, Bool, false, cond, not, ◌&&◌, ◌||◌, eqb, List, [], ◌∷◌, map, length, get_or, set, sym, ap, ◌∙◌, ap₂, arith, length-set}
 use native.Mathlib.Nat.{zero-div}
 use lib.Bits.{bit_or}
-use Rattle.laws.proofs.Tests.{by_test, same, or_false}
+use Rattle.laws.proofs.Tests.{by_test, same}
 use Rattle.word.specs.Profile.{Profile, LP5523}
 use Rattle.machine.specs.declared.Engine.{Engine}
 use Rattle.machine.specs.declared.Output.{Output}
@@ -15,7 +15,6 @@ use Rattle.machine.specs.declared.Effect.TheVariants.{Keep}
 use Rattle.machine.specs.Parts.{bit, each, zero_engine, engine_at, with_pending, with_engines}
 use Rattle.machine.specs.Outputs.{row_bit, lowest, holder, output_after}
 use Rattle.machine.specs.Triggers.{receives, to_pin}
-use Rattle.machine.specs.WordEnd.{lasts}
 use Rattle.machine.specs.Turn.{acts, beat_of, applied, turn}
 use Rattle.machine.specs.Tick.{turns}
 use Rattle.machine.proofs.Safety.{turn_acts, turn_rests}
@@ -25,10 +24,8 @@ use Rattle.engine_core.specs.declared.EngineCore.{EngineCore}
 use Rattle.engine_core.specs.Core.{engine_of}
 use Rattle.engine.specs.Parts.{output_of, Fixed, engines_from, chip_of}
 use Rattle.engine.specs.internal.Levels.{asked_before, levels_after}
-use Rattle.engine.specs.internal.Lasting.{progressed, effect_of, outlasts, lasted}
 use Rattle.engine.proofs.ByLevels.{each_none, holds, asked_set, outputs_by_levels}
-use Rattle.engine.proofs.Engines.{set_same, engine_at_lem, engine_set, core_set}
-use Rattle.engine.proofs.LastingOf.{lasting_turn}
+use Rattle.engine.proofs.Engines.{set_same, engine_at_lem, engine_set}
 
 -- counts of words, where engine i ended one or not
 abbrev pub counted : List ℕ → ℕ → Bool → List ℕ
@@ -47,9 +44,6 @@ receives_none i j e =
 pub none_received : (i : ℕ) {send : ℕ} (es : List Engine) → send ≡ 0 → es ≡ each (receives i send) 0 es
 none_received i es e = sym (each_none (receives i 0) (receives_none i) 0 es) ∙ ap (λ (n : ℕ). each (receives i n) 0 es) (sym e)
 
-pub no_pin : (pin : Bool) {send : ℕ} → send ≡ 0 → pin ≡ (pin || to_pin send)
-no_pin pin e = sym (or_false pin) ∙ ap (λ (n : ℕ). pin || to_pin n) (sym e)
-
 -- an act that keeps the outputs and sends nothing changes the engine alone
 pub applied_alone : (P : Profile) (i : ℕ) (m : Chip) (own : Engine) → applied P i m (record { own = own; c = m.c; effect = Keep; send = 0; ended = false }) ≡ record { chip = with_engines (set m.engines i own) m; send = 0; ended = false }
 applied_alone P i m own = ap₂ (λ (os : List Output) (es : List Engine). record { chip = record { enabled = m.enabled; c = m.c; d = m.d; page = m.page; memory = m.memory; outputs = os; engines = es }; send = 0; ended = false }) (each_none (output_after P m.engines i Keep) (keeps_output P m.engines i) 0 m.outputs) (each_none (receives i 0) (receives_none i) 0 (set m.engines i own))
@@ -65,7 +59,7 @@ turn_is P i m t h =
     ∙ ap (λ (es : List Engine). record { chip = with_engines es m; send = 0; ended = false }) (set_same m.engines i (zero_engine P))
     ∙ sym (turn_rests P i m a))
 
--- What the code knows when engine i has acted in its turn: the result t of its beat, and its core after it. Before the turn there were
+-- What the code knows when engine i has had its turn: the result t of its beat, and its core after it. Before the turn there were
 -- variable C, the cores ks, the branch counts cs and the counts of words ws; after it c', ks', cs' and ws', and what the beat does to the
 -- outputs and sends. D and the memory are the chip's, and k is the engine's core before.
 pub record Acted (c D : ℕ) (memory : List ℕ) (ks : List EngineCore) (cs : List (List ℕ)) (ws : List ℕ) (i : ℕ) (k : EngineCore) (c' : ℕ) (ks' : List EngineCore) (cs' : List (List ℕ)) (ws' : List ℕ) (effect : Effect) (send : ℕ) : Type 0 where
@@ -78,31 +72,11 @@ pub record Acted (c D : ℕ) (memory : List ℕ) (ks : List EngineCore) (cs : Li
   pub c_after : c' ≡ t.c
   pub effect_is : effect ≡ t.effect
   pub send_is : send ≡ t.send
-  pub is : t ≡ cond (acts (engine_of k (get_or cs i []))) (beat_of LP5523 c D memory (engine_of k (get_or cs i [])) k.status.progress) (rests c (engine_of k (get_or cs i [])))
+  pub is : t ≡ cond (acts (engine_of k (get_or cs i []))) (beat_of LP5523 c D memory (engine_of k (get_or cs i [])) k.progress) (rests c (engine_of k (get_or cs i [])))
 
--- in a word that outlasts the beat
-pub lasting : (c D : ℕ) (memory : List ℕ) (ks : List EngineCore) (cs : List (List ℕ)) (ws : List ℕ) (i : ℕ) (k : EngineCore) {c' : ℕ} {ks' : List EngineCore} {cs' : List (List ℕ)} {ws' : List ℕ} {effect : Effect} {send : ℕ} (core : EngineCore) →
-    cs' ≡ cs → ks' ≡ set ks i core → c' ≡ c → ws' ≡ ws → effect ≡ effect_of k.status.progress → send ≡ 0 →
-    outlasts (engine_of k (get_or cs i [])) ≡ true → engine_of core (get_or cs i []) ≡ lasted (engine_of k (get_or cs i [])) →
-    Acted c D memory ks cs ws i k c' ks' cs' ws' effect send
-lasting c D memory ks cs ws i k core p q r s e z h g =
-    record {
-      t = lasts c (engine_of k (get_or cs i [])) (effect_of k.status.progress) (progressed k.status.progress);
-      core = core;
-      cores_after = q;
-      engines_after = λ l. ap (engines_from (set ks i core)) p ∙ core_set ks cs i core l ∙ ap (set (engines_from ks cs) i) g;
-      counts_after = ap length p;
-      words_after = s ∙ sym (set_same ws i 0);
-      c_after = r;
-      effect_is = e;
-      send_is = z;
-      is = lasting_turn c D memory (engine_of k (get_or cs i [])) h;
-    }
-
--- in any other turn
 pub turning : (c D : ℕ) (memory : List ℕ) (ks : List EngineCore) (cs : List (List ℕ)) (ws : List ℕ) (i : ℕ) (k : EngineCore) {c' : ℕ} {ks' : List EngineCore} {cs' : List (List ℕ)} {ws' : List ℕ} {effect : Effect} {send : ℕ} (r : CoreResult) (counts : List ℕ) (n : ℕ) →
     cs' ≡ set cs i counts → ks' ≡ set ks i r.own → c' ≡ r.c → ws' ≡ set ws i n → effect ≡ r.effect → send ≡ r.send → n ≡ cond r.ended (get_or ws i 0 + 1) (get_or ws i 0) →
-    act_of r counts ≡ cond (acts (engine_of k (get_or cs i []))) (beat_of LP5523 c D memory (engine_of k (get_or cs i [])) k.status.progress) (rests c (engine_of k (get_or cs i []))) →
+    act_of r counts ≡ cond (acts (engine_of k (get_or cs i []))) (beat_of LP5523 c D memory (engine_of k (get_or cs i [])) k.progress) (rests c (engine_of k (get_or cs i []))) →
     Acted c D memory ks cs ws i k c' ks' cs' ws' effect send
 turning c D memory ks cs ws i k r counts n p q v s e z m h =
     record {

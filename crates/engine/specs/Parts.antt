@@ -6,7 +6,6 @@ use Rattle.machine.specs.declared.Output.{Output}
 use Rattle.engine_core.specs.declared.EngineCore.{EngineCore}
 use Rattle.engine_core.specs.Core.{engine_of}
 use Rattle.engine.specs.declared.Cores.{Cores}
-use Rattle.engine.specs.declared.CoresRan.{CoresRan}
 use Rattle.engine.specs.declared.Span.{Span}
 
 abbrev pub output_of : ℕ → Output
@@ -30,5 +29,5 @@ abbrev pub chip_of : Fixed → Cores → List ℕ → List (List ℕ) → Chip
 chip_of f k levels counts =
     record { enabled = f.enabled; c = k.c; d = f.d; page = f.page; memory = f.memory; outputs = map output_of levels; engines = engines_from k.engines counts }
 
-abbrev pub spanned : Fixed → CoresRan → List ℕ → List (List ℕ) → Span
-spanned f r levels counts = record { chip = chip_of f r.cores levels counts; pin = r.pin; beats = r.beats; words = r.words }
+abbrev pub spanned : Fixed → Span Cores → List ℕ → List (List ℕ) → Span Chip
+spanned f r levels counts = record { after = chip_of f r.after levels counts; pin = r.pin; beats = r.beats; words = r.words }

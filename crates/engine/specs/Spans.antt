@@ -7,16 +7,16 @@ use Rattle.machine.specs.Tick.{some, turns}
 use Rattle.machine.specs.Run.{tally}
 use Rattle.engine.specs.declared.Span.{Span}
 
-abbrev pub no_beat : Chip → Span
-no_beat m = record { chip = m; pin = false; beats = 0; words = replicate (engines_of LP5523) 0 }
+abbrev pub no_beat : Chip → Span Chip
+no_beat m = record { after = m; pin = false; beats = 0; words = replicate (engines_of LP5523) 0 }
 
 -- One beat more, without a pulse.
-abbrev pub one_beat_more : Span → Span
+abbrev pub one_beat_more : Span Chip → Span Chip
 one_beat_more s =
-    let t = turns LP5523 (engines_of LP5523) 0 s.chip in
-    record { chip = t.chip; pin = t.pin; beats = s.beats + 1; words = tally t.ended s.words }
+    let t = turns LP5523 (engines_of LP5523) 0 s.after in
+    record { after = t.chip; pin = t.pin; beats = s.beats + 1; words = tally t.ended s.words }
 
 -- At most n beats more, up to the first before which no engine acts.
-unfoldable pub span_of : ℕ → Span → Span
+unfoldable pub span_of : ℕ → Span Chip → Span Chip
 span_of zero s = s
-span_of (suc n) s = cond (some acts s.chip.engines) (span_of n (one_beat_more s)) s
+span_of (suc n) s = cond (some acts s.after.engines) (span_of n (one_beat_more s)) s

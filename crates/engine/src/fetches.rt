@@ -1,48 +1,66 @@
 // The words that engines fetch.
-ghost use Rattle.std.specs.Prelude.{◌≡◌, ◌<◌, Bool, if◌then◌else◌};
+ghost use Rattle.std.specs.Prelude.{◌≡◌, ◌<◌, length, map};
+ghost use Rattle.std.specs.Coded.{Coded-set};
 ghost use Rattle.word.specs.Profile.{LP5523};
-ghost use Rattle.word.specs.Decode.{decode_of};
-ghost use Rattle.engine.specs.internal.Fetches.{fetch_at, Decoded};
+ghost use Rattle.word.specs.Decode.{decode_of, word_at};
+ghost use Rattle.engine.specs.internal.Fetches.{decoded_if};
+ghost use Rattle.engine.specs.internal.Operands.{Small};
 
-use super::memory::WORDS;
 use decoder::decode;
-use engine_core::EngineCore;
-use word::Word;
+use word::{WORDS, Word};
+
+// The program memory, and all its words if they are decoded ahead.
+#[derive(Clone, Copy)]
+pub(super) struct Program<'a> {
+    pub memory: &'a [u16; WORDS],
+    pub words: Option<[Word; WORDS]>,
+    ghost whole: { length memory.now ≡ 96 },
+    ghost decoded: { words ≡ decoded_if memory.now words } by { Coded-set words-code _ _ },
+}
+
+// A word, and the address of the memory that it was fetched from.
+#[derive(Clone, Copy)]
+pub(super) struct Fetched {
+    pub at: usize,
+    pub word: Word,
+    ghost inside: { at < 96 },
+    ghost small: { ∥ Small word ∥₁ },
+}
 
 // All words, decoded.
-pub(super) fn decoded(memory: &[u16; 96]) -> [Word; 96]
-    ensures { Decoded memory.now result }
+fn decoded(memory: &[u16; WORDS]) -> [Word; WORDS]
+    ensures { result ≡ map (decode_of LP5523) memory.now }
 {
-    let mut words = [Word::Rst; 96];
-    let mut i: usize = 0;
-    while i < WORDS {
-        words[i] = decode(memory[i]);
-        i += 1;
-    }
-    words
+    memory.map(|code| decode(code))
 }
 
-// The word of a code, which may be known already.
-pub(super) fn word_of(known: bool, word: Word, code: u16) -> Word
-    ensures { result ≡ (if known then word else decode_of LP5523 code) }
-{
-    if known {
-        return word;
+impl Program<'_> {
+    pub(super) fn new(memory: &[u16; WORDS], ahead: bool) -> Program<'_>
+        ensures { result.memory.now ≡ memory.now }
+    {
+        let words = if ahead { Some(decoded(memory)) } else { None };
+        Program { memory, words }
     }
-    decode(code)
-}
 
-// Where an engine's word stands.
-pub(super) fn fetch_at(k: EngineCore) -> usize
-    ensures { (result ≡ fetch_at k.start k.pc) × (result < 96) }
-{
-    let first = k.start.0 as usize;
-    let at = first + k.pc.0 as usize;
-    if at < WORDS {
-        return at;
+    fn word_at(&self, at: usize) -> Word
+        requires { at < 96 }
+        ensures { result ≡ word_at LP5523 self.now.memory.now at }
+    {
+        match &self.words {
+            Some(words) => words[at],
+            None => decode(self.memory[at]),
+        }
     }
-    if first < WORDS {
-        return first;
+
+    // The word at an address of the memory.
+    pub(super) fn fetched(&self, at: usize) -> Fetched
+        requires { at < 96 }
+        ensures at { result.at ≡ at }
+        ensures word { result.word ≡ word_at LP5523 self.now.memory.now at }
+    {
+        Fetched {
+            at,
+            word: self.word_at(at),
+        }
     }
-    0
 }

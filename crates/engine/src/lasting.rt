@@ -1,48 +1,37 @@
 // Beats of a word in progress in which it doesn't end: they change no more of an engine than that word, and
-// are told apart for speed.
-ghost use Rattle.std.specs.Prelude.{◌≡◌, ℕ, true, List};
+// are tested first for speed.
+ghost use Rattle.std.specs.Prelude.{◌≡◌, true, []};
 ghost use Rattle.engine_core.specs.Core.{engine_of};
-ghost use Rattle.engine.specs.internal.Lasting.{continues, progressed, effect_of, outlasts, lasted};
+ghost use Rattle.engine.specs.internal.Lasting.{continues, progressed, effect_of, outlasts};
 
-use engine_core::{EngineCore, Status};
+use super::pending::all_pending;
+use engine_core::EngineCore;
 use machine::{Effect, Mode, Progress};
 
-fn continues(progress: Progress, pending: u16) -> bool
-    ensures { result ≡ continues pending progress }
+fn continues(k: EngineCore) -> bool
+    ensures { result ≡ continues k.pending k.progress }
 {
-    match progress {
+    match k.progress {
         Progress::BetweenWords => false,
         Progress::Waiting { left } => left > 1,
-        Progress::Ramping {
-            dir: _,
-            part: _,
-            left,
-            parts,
-        } => if left > 1 { true } else { parts > 1 },
-        Progress::Triggering { wait, send: _ } => pending & wait != wait,
+        Progress::Ramping { left, parts, .. } => left > 1 || parts > 1,
+        Progress::Triggering { wait, .. } => !all_pending(k.pending, wait),
     }
 }
 
 pub(super) fn outlasts(k: EngineCore) -> bool
-    ensures { (counts : List ℕ) → result ≡ outlasts (engine_of k counts) }
+    ensures { result ≡ outlasts (engine_of k []) }
 {
-    let status = k.status;
-    let mode = status.mode;
-    let progress = status.progress;
-    match mode {
-        Mode::Disabled => false,
-        Mode::Load => false,
-        Mode::Run => continues(progress, k.pending),
-        Mode::Halt => false,
-    }
+    matches!(k.mode, Mode::Run) && continues(k)
 }
 
-fn progressed(progress: Progress, pending: u16) -> Progress
-    requires { continues pending progress ≡ true }
-    ensures { result ≡ progressed progress }
+// The word in progress after such a beat.
+pub(super) fn progressed(k: EngineCore) -> Progress
+    requires { continues k.pending k.progress ≡ true }
+    ensures { result ≡ progressed k.progress }
 {
-    match progress {
-        Progress::BetweenWords => progress,
+    match k.progress {
+        Progress::BetweenWords => Progress::BetweenWords,
         Progress::Waiting { left } => Progress::Waiting { left: left - 1 },
         Progress::Ramping {
             dir,
@@ -64,47 +53,22 @@ fn progressed(progress: Progress, pending: u16) -> Progress
                 parts: parts - 1,
             }
         },
-        Progress::Triggering { wait: _, send: _ } => progress,
+        Progress::Triggering { wait, send } => Progress::Triggering { wait, send },
     }
 }
 
-// The engine after such a beat.
-pub(super) fn lasted(mut k: EngineCore) -> EngineCore
-    requires { (counts : List ℕ) → outlasts (engine_of k counts) ≡ true }
-    ensures { (counts : List ℕ) → engine_of result counts ≡ lasted (engine_of k counts) }
-{
-    let status = k.status;
-    let mode = status.mode;
-    let exec = status.exec;
-    let progress = status.progress;
-    let after = Status {
-        mode,
-        exec,
-        progress: progressed(progress, k.pending),
-    };
-    k.status = after;
-    k
-}
-
 // Its effect on the outputs that the engine holds.
-pub(super) fn effect_of(k: EngineCore) -> Effect
-    ensures { result ≡ effect_of k.status.progress }
+pub(super) fn effect_of(progress: Progress) -> Effect
+    ensures { result ≡ effect_of progress }
 {
-    let status = k.status;
-    let progress = status.progress;
     match progress {
-        Progress::BetweenWords => Effect::Keep,
-        Progress::Waiting { left: _ } => Effect::Keep,
-        Progress::Ramping {
-            dir,
-            part: _,
-            left,
-            parts: _,
-        } => if left > 1 {
+        Progress::Ramping { dir, left, .. } => if left > 1 {
             Effect::Keep
         } else {
             Effect::Move { dir }
         },
-        Progress::Triggering { wait: _, send: _ } => Effect::Keep,
+        Progress::BetweenWords | Progress::Waiting { .. } | Progress::Triggering { .. } => {
+            Effect::Keep
+        }
     }
 }

@@ -3,13 +3,13 @@
 // beats of a whole chip of them.
 #![tactic(auto)]
 
+mod acting;
 mod branches;
 mod durations;
 mod fetches;
 mod idle;
 mod lasting;
 mod levels;
-mod memory;
 mod outputs;
 mod pending;
 mod spans;
@@ -22,7 +22,7 @@ mod word_end;
 mod words;
 
 use engine_core::EngineCore;
-use machine::{Chip, Effect};
+use machine::Effect;
 pub use spans::take_beats;
 
 // What a beat of a word gives, but for the branch counts. The order is for speed: the small fields lie
@@ -43,20 +43,11 @@ pub struct Cores {
     pub engines: [EngineCore; 3],
 }
 
-// What beats one after another give: whether the last sent to the pin, how many there were, and the
-// words that each engine finished.
+// What beats one after another give: what they worked on after them, which is cores or a whole chip,
+// whether the last sent to the pin, how many there were, and the words that each engine finished.
 #[derive(Clone, Copy)]
-pub struct CoresRan {
-    pub cores: Cores,
-    pub pin: bool,
-    pub beats: u32,
-    pub words: [u32; 3],
-}
-
-// The same of a whole chip.
-#[derive(Clone, Copy)]
-pub struct Span {
-    pub chip: Chip,
+pub struct Span<T> {
+    pub after: T,
     pub pin: bool,
     pub beats: u32,
     pub words: [u32; 3],

@@ -1,46 +1,44 @@
 // The outputs' levels after a word's beat.
-ghost use Rattle.std.specs.Prelude.{◌≡◌, ℕ, ◌<◌, not, ◌&&◌, length};
+ghost use Rattle.std.specs.Prelude.{◌≡◌, ℕ, ◌<◌, not, ◌&&◌, bit_and, bit_xor};
 ghost use Rattle.word.specs.Profile.{LP5523};
 ghost use Rattle.machine.specs.Parts.{bit};
 ghost use Rattle.machine.specs.Outputs.{row_bit, moved, affected};
 ghost use Rattle.engine.specs.Parts.{output_of};
 ghost use Rattle.engine.specs.internal.Levels.{asked_before, level_after, levels_after};
 
-use engine_core::EngineCore;
+use engine_core::{EngineCore, has_bit};
 use machine::Effect;
 use word::Direction;
 
-// The bits of a mask without those of another.
+// The output that is the GPO, and its row bit. The row bits of the others are their numbers.
+const GPO: usize = 9;
+
+const GPO_BIT: usize = 15;
+
+// The bits of a mask without those of another. No `mask & !other`: `!` is proved to be 65535 minus a mask.
 fn without(mask: u16, other: u16) -> u16
-    ensures { (j : ℕ) → bit result j ≡ (bit mask j && not (bit other j)) }
+    ensures { result ≡ bit_xor mask (bit_and mask other) }
 {
     mask ^ (mask & other)
 }
 
 // The row bits of the outputs that engine i holds: those of its mask without those of the engines before
 // it.
-pub(super) fn held(cores: [EngineCore; 3], mask: u16, i: usize) -> u16
+pub(super) fn held_bits(cores: &[EngineCore; 3], mask: u16, i: usize) -> u16
     requires { i < 3 }
-    ensures { (j : ℕ) → bit result j ≡ (bit mask j && not (asked_before i cores j)) }
+    ensures { (j : ℕ) → bit result j ≡ (bit mask j && not (asked_before i cores.now j)) }
 {
-    if i == 0 {
-        return mask;
-    }
-    let one = cores[0];
-    let left = without(mask, one.mask);
-    if i == 1 {
-        return left;
-    }
-    let two = cores[1];
-    without(left, two.mask)
+    cores[..i]
+        .iter()
+        .fold(mask, |left, core| without(left, core.mask))
 }
 
 fn moved(dir: Direction, level: u8) -> u8
     ensures { result ≡ moved dir level }
 {
     match dir {
-        Direction::Up => if level < 255 { level + 1 } else { 255 },
-        Direction::Down => if level > 0 { level - 1 } else { 0 },
+        Direction::Up => level.saturating_add(1),
+        Direction::Down => level.saturating_sub(1),
     }
 }
 
@@ -55,43 +53,32 @@ fn affected(effect: Effect, level: u8) -> u8
 }
 
 // Whether the row bit of output k is set.
-fn has(held: u16, k: usize) -> bool
+fn has_output(held: u16, k: usize) -> bool
     requires { k < 10 }
     ensures { result ≡ bit held (row_bit LP5523 k) }
 {
-    if k == 9 {
-        return held / 32768 % 2 == 1;
-    }
-    (held >> k) % 2 == 1
+    has_bit(held, if k == GPO { GPO_BIT } else { k })
 }
 
 fn level_after(held: u16, effect: Effect, k: usize, level: u8) -> u8
     requires { k < 10 }
     ensures { result ≡ level_after held effect k level }
 {
-    if has(held, k) {
-        return affected(effect, level);
-    }
-    level
-}
-
-fn change(levels: &mut [u8], held: u16, effect: Effect)
-    requires { length levels.old ≡ 10 }
-    ensures { levels.new ≡ levels_after held effect levels.old }
-{
-    let mut k: usize = 0;
-    while k < 10 {
-        levels[k] = level_after(held, effect, k, levels[k]);
-        k += 1;
+    if has_output(held, k) {
+        affected(effect, level)
+    } else {
+        level
     }
 }
 
-// A beat that keeps the outputs is told apart first: most beats do.
+// A beat that keeps the outputs is tested first: most beats do.
 pub(super) fn with_effect(levels: &mut [u8; 10], held: u16, effect: Effect)
     ensures { levels.new ≡ levels_after held effect levels.old }
 {
     if let Effect::Keep = effect {
         return;
     }
-    change(levels, held, effect);
+    for (k, level) in levels.iter_mut().enumerate() {
+        *level = level_after(held, effect, k, *level);
+    }
 }

@@ -1,25 +1,33 @@
-// Triggers that a word sends.
-ghost use Rattle.std.specs.Prelude.{◌≡◌, ℕ, ◌<◌, List, length};
+// Triggers: those that a word waits for, and those that it sends.
+ghost use Rattle.std.specs.Prelude.{◌≡◌, ℕ, ◌<◌, ◌==◌, bit_and, List, length};
 ghost use Rattle.machine.specs.Parts.{each};
 ghost use Rattle.machine.specs.Triggers.{receives, to_pin};
 ghost use Rattle.engine.specs.Parts.{engines_from};
 
-use engine_core::{EngineCore, with_bit};
+use engine_core::{EngineCore, PIN, has_bit};
 
-// The trigger bit of engine i becomes pending in those that `send` names.
-pub(super) fn received(cores: [EngineCore; 3], i: usize, send: u16) -> [EngineCore; 3]
-    requires { i < 3 }
-    ensures { (counts : List (List ℕ)) → length counts ≡ 3 → engines_from result counts ≡ each (receives i send) 0 (engines_from cores counts) }
+pub(super) fn all_pending(pending: u16, wait: u16) -> bool
+    ensures { result ≡ (bit_and pending wait == wait) }
 {
+    pending & wait == wait
+}
+
+// The trigger bit of engine i becomes pending in those that `send` names. Most words send nothing.
+pub(super) fn receive(cores: &mut [EngineCore; 3], i: usize, send: u16)
+    requires { i < 3 }
+    ensures { (counts : List (List ℕ)) → length counts ≡ 3 → engines_from cores.new counts ≡ each (receives i send) 0 (engines_from cores.old counts) }
+{
+    if send == 0 {
+        return;
+    }
     let bit: u16 = 1 << i;
-    let one = with_bit(cores[0], bit, send % 2 == 1);
-    let two = with_bit(cores[1], bit, send / 2 % 2 == 1);
-    let three = with_bit(cores[2], bit, send / 4 % 2 == 1);
-    [one, two, three]
+    for (k, core) in cores.iter_mut().enumerate() {
+        *core = core.with_bit(bit, has_bit(send, k));
+    }
 }
 
 pub(super) fn to_pin(send: u16) -> bool
     ensures { result ≡ to_pin send }
 {
-    send / 32 % 2 == 1
+    has_bit(send, PIN)
 }

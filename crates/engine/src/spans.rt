@@ -1,18 +1,16 @@
-// Beats one after another, for a single beat and for a run. The cores and the decoded words are locals of
-// one function, since no reference leads to an enum; `turn` has one call, so that the compiler inlines it.
+// Beats one after another, for a single beat and for a run. `turn` has one call, so that the compiler inlines
+// it.
 ghost use Rattle.std.specs.Prelude.{◌≡◌, ◌+◌, ◌<◌, length, if◌then◌else◌};
 ghost use Rattle.engine.specs.Parts.{Fixed, chip_of, spanned};
 ghost use Rattle.engine.specs.Spans.{no_beat, span_of};
 
-use super::fetches::{decoded, fetch_at, word_of};
-use super::idle::{all_idle, any_acts, idled};
-use super::lasting::{effect_of, lasted, outlasts};
-use super::outputs::{held, with_effect};
-use super::pending::{received, to_pin};
-use super::turns::turn;
-use crate::{Cores, CoresRan};
-use machine::Effect;
-use word::Word;
+use super::acting::Acting;
+use super::fetches::Program;
+use super::idle::{all_idle, any_acts, idle};
+use super::outputs::{held_bits, with_effect};
+use super::pending::{receive, to_pin};
+use crate::{Cores, Span};
+use word::WORDS;
 
 // From so many beats on, decoding all words first takes less time than decoding each as it is fetched.
 const MANY: u32 = 32;
@@ -29,63 +27,43 @@ fn one_more(words: u32, ended: bool) -> u32
 pub fn take_beats(
     start: Cores,
     d: u8,
-    memory: &[u16; 96],
+    memory: &[u16; WORDS],
     levels: &mut [u8; 10],
-    counts: &mut [[u8; 96]; 3],
+    counts: &mut [[u8; WORDS]; 3],
     most: u32,
-) -> CoresRan
+) -> Span<Cores>
     ensures { (f : Fixed) → f.d ≡ d → f.memory ≡ memory.now → length counts.old ≡ 3 → spanned f result levels.new counts.new ≡ span_of most (no_beat (chip_of f start levels.old counts.old)) }
 {
-    let ahead = most >= MANY;
-    let mut known = [Word::Rst; 96];
-    if ahead {
-        known = decoded(memory);
-    }
-    let mut cores = start.engines;
-    let mut c = start.c;
+    let program = Program::new(memory, most >= MANY);
+    let Cores {
+        mut c,
+        engines: mut cores,
+    } = start;
     let mut pin = false;
     let mut words = [0u32; 3];
     let mut beats: u32 = 0;
-    while beats < most && any_acts(cores) {
+    // no `for`: it ends at the first beat before which no engine acts, and `beats` is part of the answer
+    while beats < most && any_acts(&cores) {
         pin = false;
-        if all_idle(cores) {
-            cores[0] = idled(cores[0]);
-            cores[1] = idled(cores[1]);
-            cores[2] = idled(cores[2]);
-            beats += 1;
-            continue;
-        }
-        let mut i: usize = 0;
-        while i < 3 {
-            let k = cores[i];
-            let mut effect = Effect::Keep;
-            let mut send: u16 = 0;
-            if outlasts(k) {
-                effect = effect_of(k);
-                cores[i] = lasted(k);
-            } else {
-                let at = fetch_at(k);
-                let word = word_of(ahead, known[at], memory[at]);
-                let t = turn(k, c, d, word, at, memory, &mut counts[i]);
-                effect = t.effect;
-                let own = t.own;
-                cores[i] = own;
+        if all_idle(&cores) {
+            idle(&mut cores);
+        } else {
+            // by index: what an engine sends changes the others
+            for i in 0..3 {
+                let own = cores[i];
+                let t = Acting { own, c, d }.turn(&program, &mut counts[i]);
+                cores[i] = t.own;
                 c = t.c;
-                send = t.send;
                 words[i] = one_more(words[i], t.ended);
-            }
-            let bits = held(cores, k.mask, i);
-            with_effect(levels, bits, effect);
-            i += 1;
-            if send != 0 {
-                cores = received(cores, i - 1, send);
-                pin = pin | to_pin(send);
+                with_effect(levels, held_bits(&cores, own.mask, i), t.effect);
+                receive(&mut cores, i, t.send);
+                pin |= to_pin(t.send);
             }
         }
         beats += 1;
     }
-    CoresRan {
-        cores: Cores { c, engines: cores },
+    Span {
+        after: Cores { c, engines: cores },
         pin,
         beats,
         words,

@@ -10,15 +10,10 @@ ghost use Rattle.machine.specs.TablePointers.{next_index, previous_index, pointe
 ghost use Rattle.engine_core.specs.Core.{engine_of};
 ghost use Rattle.engine.specs.internal.Act.{act_of};
 
-use super::memory::word_at;
-use super::word_end::goes_on;
+use super::acting::Acting;
 use crate::CoreResult;
-use engine_core::EngineCore;
 use machine::Pointers;
-use word::{Address, MuxAtOp, MuxMoveOp};
-
-// Words of program memory.
-const WORDS: u16 = 96;
+use word::{Address, MuxAtOp, MuxMoveOp, WORDS};
 
 // The row bits that are outputs.
 const OUTPUT_BITS: u16 = 0x81FF;
@@ -26,10 +21,7 @@ const OUTPUT_BITS: u16 = 0x81FF;
 fn next_index(t: Pointers) -> Address
     ensures { result.0 ≡ next_index LP5523 t }
 {
-    if t.index.0 == t.bottom.0 {
-        return t.top;
-    }
-    if t.index.0 >= WORDS - 1 {
+    if t.index == t.bottom || t.index.0 as usize >= WORDS - 1 {
         return t.top;
     }
     Address(t.index.0 + 1)
@@ -38,71 +30,48 @@ fn next_index(t: Pointers) -> Address
 fn previous_index(t: Pointers) -> Address
     ensures { result.0 ≡ previous_index t }
 {
-    if t.index.0 == t.top.0 {
-        return t.bottom;
-    }
-    if t.index.0 == 0 {
+    if t.index == t.top || t.index.0 == 0 {
         return t.bottom;
     }
     Address(t.index.0 - 1)
 }
 
 // The mask that the row at an address gives; past the memory there is none.
-fn mask_at(memory: &[u16; 96], index: Address) -> u16
+fn mask_at(memory: &[u16; WORDS], index: Address) -> u16
     ensures { result ≡ mask_of LP5523 (slice_index memory.now index.0) }
 {
-    word_at(memory, index.0 as usize) & OUTPUT_BITS
+    match memory.get(index.0 as usize) {
+        Some(row) => row & OUTPUT_BITS,
+        None => 0,
+    }
 }
 
-fn loads(mut k: EngineCore, c: u8, table: Pointers) -> CoreResult
-    ensures { (memory counts : List ℕ) → act_of result counts ≡ points LP5523 c memory (engine_of k counts) false table }
-{
-    k.table = table;
-    goes_on(k, c)
-}
-
-fn maps(mut k: EngineCore, c: u8, memory: &[u16; 96], table: Pointers) -> CoreResult
-    ensures { (counts : List ℕ) → act_of result counts ≡ points LP5523 c memory.now (engine_of k counts) true table }
-{
-    let index = table.index;
-    let mask = mask_at(memory, index);
-    k.table = table;
-    k.mask = mask;
-    goes_on(k, c)
-}
-
+// One function for each case of `pointed`, so that a beat makes no TableUse.
 fn start_at(t: Pointers, address: Address) -> Pointers
     ensures { result ≡ pointed LP5523 (StartAt address) t }
 {
-    let bottom = t.bottom;
     Pointers {
         top: address,
-        bottom,
         index: address,
+        ..t
     }
 }
 
 fn end_at(t: Pointers, address: Address) -> Pointers
     ensures { result ≡ pointed LP5523 (EndAt address) t }
 {
-    let top = t.top;
-    let index = t.index;
     Pointers {
-        top,
         bottom: address,
-        index,
+        ..t
     }
 }
 
 fn row_at(t: Pointers, address: Address) -> Pointers
     ensures { result ≡ pointed LP5523 (RowAt address) t }
 {
-    let top = t.top;
-    let bottom = t.bottom;
     Pointers {
-        top,
-        bottom,
         index: address,
+        ..t
     }
 }
 
@@ -118,48 +87,61 @@ fn backward(t: Pointers) -> Pointers
     row_at(t, previous_index(t))
 }
 
-pub(super) fn mux_at(
-    k: EngineCore,
-    c: u8,
-    memory: &[u16; 96],
-    op: MuxAtOp,
-    address: Address,
-) -> CoreResult
-    ensures { (counts : List ℕ) → act_of result counts ≡ points LP5523 c memory.now (engine_of k counts) (maps_at op) (pointed LP5523 (use_at op address) k.table) }
-{
-    let t = k.table;
-    match op {
-        MuxAtOp::MuxMapStart => maps(k, c, memory, start_at(t, address)),
-        MuxAtOp::MuxLdEnd => loads(k, c, end_at(t, address)),
-        MuxAtOp::MuxLdStart => loads(k, c, start_at(t, address)),
-        MuxAtOp::MuxLdAddr => loads(k, c, row_at(t, address)),
-        MuxAtOp::MuxMapAddr => maps(k, c, memory, row_at(t, address)),
+impl Acting {
+    #[tactic(auto, unfolding(machine::specs::TablePointers::points))]
+    fn loads(mut self, table: Pointers) -> CoreResult
+        ensures { (memory counts : List ℕ) → act_of result counts ≡ points LP5523 self.c memory (engine_of self.own counts) false table }
+    {
+        self.own.table = table;
+        self.goes_on()
     }
-}
 
-pub(super) fn mux_move(k: EngineCore, c: u8, memory: &[u16; 96], op: MuxMoveOp) -> CoreResult
-    ensures { (counts : List ℕ) → act_of result counts ≡ points LP5523 c memory.now (engine_of k counts) (maps_move op) (pointed LP5523 (use_move op) k.table) }
-{
-    let t = k.table;
-    match op {
-        MuxMoveOp::MuxMapNext => maps(k, c, memory, forward(t)),
-        MuxMoveOp::MuxLdNext => loads(k, c, forward(t)),
-        MuxMoveOp::MuxMapPrev => maps(k, c, memory, backward(t)),
-        MuxMoveOp::MuxLdPrev => loads(k, c, backward(t)),
+    #[tactic(auto, unfolding(machine::specs::TablePointers::points))]
+    fn maps(mut self, memory: &[u16; WORDS], table: Pointers) -> CoreResult
+        ensures { (counts : List ℕ) → act_of result counts ≡ points LP5523 self.c memory.now (engine_of self.own counts) true table }
+    {
+        self.own.table = table;
+        self.own.mask = mask_at(memory, table.index);
+        self.goes_on()
     }
-}
 
-pub(super) fn mux_sel(mut k: EngineCore, c: u8, output: u16) -> CoreResult
-    requires { (1 ≤ output) × (output ≤ 16) }
-    ensures { (counts : List ℕ) → act_of result counts ≡ goes_on c (with_mask (mask_of_output output) (engine_of k counts)) }
-{
-    k.mask = 1 << (output - 1);
-    goes_on(k, c)
-}
+    pub(super) fn mux_at(self, memory: &[u16; WORDS], op: MuxAtOp, address: Address) -> CoreResult
+        ensures { (counts : List ℕ) → act_of result counts ≡ points LP5523 self.c memory.now (engine_of self.own counts) (maps_at op) (pointed LP5523 (use_at op address) self.own.table) }
+    {
+        let t = self.own.table;
+        match op {
+            MuxAtOp::MuxMapStart => self.maps(memory, start_at(t, address)),
+            MuxAtOp::MuxLdEnd => self.loads(end_at(t, address)),
+            MuxAtOp::MuxLdStart => self.loads(start_at(t, address)),
+            MuxAtOp::MuxLdAddr => self.loads(row_at(t, address)),
+            MuxAtOp::MuxMapAddr => self.maps(memory, row_at(t, address)),
+        }
+    }
 
-pub(super) fn mux_clr(mut k: EngineCore, c: u8) -> CoreResult
-    ensures { (counts : List ℕ) → act_of result counts ≡ goes_on c (with_mask 0 (engine_of k counts)) }
-{
-    k.mask = 0;
-    goes_on(k, c)
+    pub(super) fn mux_move(self, memory: &[u16; WORDS], op: MuxMoveOp) -> CoreResult
+        ensures { (counts : List ℕ) → act_of result counts ≡ points LP5523 self.c memory.now (engine_of self.own counts) (maps_move op) (pointed LP5523 (use_move op) self.own.table) }
+    {
+        let t = self.own.table;
+        match op {
+            MuxMoveOp::MuxMapNext => self.maps(memory, forward(t)),
+            MuxMoveOp::MuxLdNext => self.loads(forward(t)),
+            MuxMoveOp::MuxMapPrev => self.maps(memory, backward(t)),
+            MuxMoveOp::MuxLdPrev => self.loads(backward(t)),
+        }
+    }
+
+    pub(super) fn mux_sel(mut self, output: u16) -> CoreResult
+        requires { (1 ≤ output) × (output ≤ 16) }
+        ensures { (counts : List ℕ) → act_of result counts ≡ goes_on self.c (with_mask (mask_of_output output) (engine_of self.own counts)) }
+    {
+        self.own.mask = 1 << (output - 1);
+        self.goes_on()
+    }
+
+    pub(super) fn mux_clr(mut self) -> CoreResult
+        ensures { (counts : List ℕ) → act_of result counts ≡ goes_on self.c (with_mask 0 (engine_of self.own counts)) }
+    {
+        self.own.mask = 0;
+        self.goes_on()
+    }
 }

@@ -1,62 +1,24 @@
 // Variables, and the words that compute with them.
-ghost use Rattle.std.specs.Prelude.{◌≡◌, ℕ, ◌≤◌, List};
-ghost use Rattle.machine.specs.WordEnd.{step_pc, ends};
-ghost use Rattle.machine.specs.Variables.{variable, subtracted, computed, combined, assigns, jumps, jump_to};
+ghost use Rattle.std.specs.Prelude.{◌≡◌, ℕ, List};
+ghost use Rattle.machine.specs.WordEnd.{ends};
+ghost use Rattle.machine.specs.Variables.{variable, computed, combined, assigns, jumps, jump_to};
 ghost use Rattle.machine.specs.declared.Effect.TheVariants.{Keep};
 ghost use Rattle.engine_core.specs.Core.{engine_of};
 ghost use Rattle.engine.specs.internal.Act.{act_of};
 
-use super::word_end::{ends, goes_on, step_pc};
+use super::acting::Acting;
+use super::word_end::step_pc;
 use crate::CoreResult;
-use engine_core::EngineCore;
 use machine::Effect;
-use word::{ArithOp, ArithVarOp, JumpOp};
-
-pub(super) fn variable(k: EngineCore, c: u8, d: u8, v: u16) -> u8
-    ensures { (counts : List ℕ) → result ≡ variable c d (engine_of k counts) v }
-{
-    if v == 0 {
-        return k.a;
-    }
-    if v == 1 {
-        return k.b;
-    }
-    if v == 2 {
-        return c;
-    }
-    d
-}
-
-fn assigns(mut k: EngineCore, c: u8, v: u16, x: u8) -> CoreResult
-    ensures { (counts : List ℕ) → act_of result counts ≡ assigns c (engine_of k counts) v x }
-{
-    if v == 0 {
-        k.a = x;
-        return goes_on(k, c);
-    }
-    if v == 1 {
-        k.b = x;
-        return goes_on(k, c);
-    }
-    if v == 2 {
-        return goes_on(k, x);
-    }
-    goes_on(k, c)
-}
-
-fn subtracted(x: u8, y: u8) -> u8
-    ensures { result ≡ subtracted x y }
-{
-    std::num::wrapping_sub_u8(x, y)
-}
+use word::{ArithOp, ArithVarOp, JumpOp, Step};
 
 fn computed(op: ArithOp, x: u8, n: u8) -> u8
     ensures { result ≡ computed op x n }
 {
     match op {
         ArithOp::Ld => n,
-        ArithOp::Add => std::num::wrapping_add_u8(x, n),
-        ArithOp::Sub => subtracted(x, n),
+        ArithOp::Add => x.wrapping_add(n),
+        ArithOp::Sub => x.wrapping_sub(n),
     }
 }
 
@@ -64,8 +26,8 @@ fn combined(op: ArithVarOp, x: u8, y: u8) -> u8
     ensures { result ≡ combined op x y }
 {
     match op {
-        ArithVarOp::AddVar => std::num::wrapping_add_u8(x, y),
-        ArithVarOp::SubVar => subtracted(x, y),
+        ArithVarOp::AddVar => x.wrapping_add(y),
+        ArithVarOp::SubVar => x.wrapping_sub(y),
     }
 }
 
@@ -80,47 +42,53 @@ fn jumps(op: JumpOp, x: u8, y: u8) -> bool
     }
 }
 
-pub(super) fn jump(
-    k: EngineCore,
-    c: u8,
-    d: u8,
-    op: JumpOp,
-    skip: u16,
-    left: u16,
-    right: u16,
-) -> CoreResult
-    requires { skip ≤ 31 }
-    ensures { (counts : List ℕ) → act_of result counts ≡ ends c (engine_of k counts) Keep 0 (jump_to k.pc (jumps op (variable c d (engine_of k counts) left) (variable c d (engine_of k counts) right)) skip) }
+fn jump_to(pc: Step, taken: bool, skip: u8) -> Step
+    ensures { result ≡ jump_to pc taken skip }
 {
-    let pc = k.pc;
-    let x = variable(k, c, d, left);
-    let y = variable(k, c, d, right);
-    if jumps(op, x, y) {
-        return ends(k, c, Effect::Keep, 0, step_pc(pc, 1 + skip));
+    step_pc(pc, if taken { 1 + skip as u16 } else { 1 })
+}
+
+impl Acting {
+    pub(super) fn variable(self, v: u16) -> u8
+        ensures { (counts : List ℕ) → result ≡ variable self.c self.d (engine_of self.own counts) v }
+    {
+        match v {
+            0 => self.own.a,
+            1 => self.own.b,
+            2 => self.c,
+            _ => self.d,
+        }
     }
-    ends(k, c, Effect::Keep, 0, step_pc(pc, 1))
-}
 
-pub(super) fn arith(k: EngineCore, c: u8, d: u8, op: ArithOp, to: u16, value: u16) -> CoreResult
-    requires { value ≤ 255 }
-    ensures { (counts : List ℕ) → act_of result counts ≡ assigns c (engine_of k counts) to (computed op (variable c d (engine_of k counts) to) value) }
-{
-    let x = variable(k, c, d, to);
-    assigns(k, c, to, computed(op, x, value as u8))
-}
+    #[tactic(auto, unfolding(machine::specs::Variables::assigns))]
+    fn assigns(mut self, v: u16, x: u8) -> CoreResult
+        ensures { (counts : List ℕ) → act_of result counts ≡ assigns self.c (engine_of self.own counts) v x }
+    {
+        match v {
+            0 => self.own.a = x,
+            1 => self.own.b = x,
+            2 => self.c = x,
+            _ => {}
+        }
+        self.goes_on()
+    }
 
-pub(super) fn arith_var(
-    k: EngineCore,
-    c: u8,
-    d: u8,
-    op: ArithVarOp,
-    to: u16,
-    left: u16,
-    right: u16,
-) -> CoreResult
-    ensures { (counts : List ℕ) → act_of result counts ≡ assigns c (engine_of k counts) to (combined op (variable c d (engine_of k counts) left) (variable c d (engine_of k counts) right)) }
-{
-    let x = variable(k, c, d, left);
-    let y = variable(k, c, d, right);
-    assigns(k, c, to, combined(op, x, y))
+    pub(super) fn jump(self, op: JumpOp, skip: u8, left: u16, right: u16) -> CoreResult
+        ensures { (counts : List ℕ) → act_of result counts ≡ ends self.c (engine_of self.own counts) Keep 0 (jump_to self.own.pc (jumps op (variable self.c self.d (engine_of self.own counts) left) (variable self.c self.d (engine_of self.own counts) right)) skip) }
+    {
+        let taken = jumps(op, self.variable(left), self.variable(right));
+        self.ends(Effect::Keep, 0, jump_to(self.own.pc, taken, skip))
+    }
+
+    pub(super) fn arith(self, op: ArithOp, to: u16, value: u8) -> CoreResult
+        ensures { (counts : List ℕ) → act_of result counts ≡ assigns self.c (engine_of self.own counts) to (computed op (variable self.c self.d (engine_of self.own counts) to) value) }
+    {
+        self.assigns(to, computed(op, self.variable(to), value))
+    }
+
+    pub(super) fn arith_var(self, op: ArithVarOp, to: u16, left: u16, right: u16) -> CoreResult
+        ensures { (counts : List ℕ) → act_of result counts ≡ assigns self.c (engine_of self.own counts) to (combined op (variable self.c self.d (engine_of self.own counts) left) (variable self.c self.d (engine_of self.own counts) right)) }
+    {
+        self.assigns(to, combined(op, self.variable(left), self.variable(right)))
+    }
 }

@@ -6,12 +6,14 @@ ghost use Rattle.engine_core.specs.Core.{engine_of};
 
 use crate::EngineCore;
 
-// A core with a bit pending, if it is named.
-pub fn with_bit(mut k: EngineCore, bit: u16, named: bool) -> EngineCore
-    ensures { (counts : List ℕ) → engine_of result counts ≡ cond named (with_pending (bit_or k.pending bit) (engine_of k counts)) (engine_of k counts) }
-{
-    if named {
-        k.pending = k.pending | bit;
+impl EngineCore {
+    // The core with a bit pending, if it is named.
+    pub fn with_bit(mut self, bit: u16, named: bool) -> EngineCore
+        ensures { (counts : List ℕ) → engine_of result counts ≡ cond named (with_pending (bit_or self.pending bit) (engine_of self counts)) (engine_of self counts) }
+    {
+        if named {
+            self.pending |= bit;
+        }
+        self
     }
-    k
 }

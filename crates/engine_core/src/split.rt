@@ -2,61 +2,51 @@
 ghost use Rattle.std.specs.Prelude.{◌≡◌};
 ghost use Rattle.engine_core.specs.Core.{engine_of};
 
-use crate::{EngineCore, Status};
+use crate::EngineCore;
 use machine::Engine;
+use word::WORDS;
 
-// An engine without its branch counts.
-pub fn core_of(e: Engine) -> EngineCore
-    ensures { engine_of result e.loops ≡ e }
-{
-    let mode = e.mode;
-    let exec = e.exec;
-    let pc = e.pc;
-    let progress = e.progress;
-    let start = e.start;
-    let table = e.table;
-    EngineCore {
-        start,
-        table,
-        a: e.a,
-        b: e.b,
-        interrupt: e.interrupt,
-        fault: e.fault,
-        mask: e.mask,
-        pending: e.pending,
-        pc,
-        status: Status {
-            mode,
-            exec,
-            progress,
-        },
+impl From<Engine> for EngineCore {
+    ghost from_gives = { λ e k. engine_of k e.loops ≡ e };
+
+    // An engine without its branch counts.
+    fn from(e: Engine) -> EngineCore {
+        EngineCore {
+            start: e.start,
+            table: e.table,
+            pending: e.pending,
+            mask: e.mask,
+            pc: e.pc,
+            a: e.a,
+            b: e.b,
+            interrupt: e.interrupt,
+            fault: e.fault,
+            mode: e.mode,
+            exec: e.exec,
+            progress: e.progress,
+        }
     }
 }
 
-// An engine from its core and its branch counts.
-pub fn engine_of(own: EngineCore, counts: [u8; 96]) -> Engine
-    ensures { result ≡ engine_of own counts }
-{
-    let status = own.status;
-    let mode = status.mode;
-    let exec = status.exec;
-    let start = own.start;
-    let pc = own.pc;
-    let table = own.table;
-    let progress = status.progress;
-    Engine {
-        mode,
-        exec,
-        start,
-        pc,
-        a: own.a,
-        b: own.b,
-        mask: own.mask,
-        table,
-        pending: own.pending,
-        interrupt: own.interrupt,
-        fault: own.fault,
-        progress,
-        loops: counts,
+impl EngineCore {
+    // The engine that the core and branch counts are.
+    pub fn with_counts(self, counts: [u8; WORDS]) -> Engine
+        ensures { result ≡ engine_of self counts }
+    {
+        Engine {
+            mode: self.mode,
+            exec: self.exec,
+            start: self.start,
+            pc: self.pc,
+            a: self.a,
+            b: self.b,
+            mask: self.mask,
+            table: self.table,
+            pending: self.pending,
+            interrupt: self.interrupt,
+            fault: self.fault,
+            progress: self.progress,
+            loops: counts,
+        }
     }
 }

@@ -7,15 +7,15 @@ use native.Mathlib.Omega.{arith}
 use borrow.Author.Tests.{le-leb, lt-ltb}
 use lib.Dec.{eqb}
 use lib.ListN.{length}
+use Rattle.std.proofs.Common.{Result, Ok, Err}
+use Rattle.text.specs.declared.ValueError.{ValueError}
+use Rattle.text.specs.declared.ValueError.TheVariants.{Malformed, Outside}
 use Rattle.text.specs.Bytes.{equals_sign, value_of, is_keyword}
 use Rattle.text.specs.Number.{is_number, read_number}
-use Rattle.text.specs.declared.Decimal.{Decimal}
-use Rattle.text.specs.declared.Decimal.TheVariants as decimal
 use Rattle.text.proofs.Values.{value_pair}
 use Rattle.text.proofs.Theorems.{not_shortened, read_writes}
 use Rattle.word.specs.Field.{inside}
 use Rattle.word.specs.Profile.{Range}
-use Rattle.grammar.specs.declared.Value.TheVariants.{Number, Malformed}
 use Rattle.grammar.specs.Form.{Kind, number, decision, answers, Pair, Reading, values, held, read_value, read_pair, at_end, read_form, write_value, write_pair, continued, write_form, keyword, read_keyword}
 use Rattle.grammar.specs.Theorems.{fits_kind, is_empty, fits_after, fits_form}
 use Rattle.grammar.proofs.Places.{malformed_number, outside_number, chosen, keyword_read}
@@ -23,16 +23,16 @@ use Rattle.grammar.proofs.Steps.{refused_values, onward, end_values, form_first}
 
 -- ---- a value
 
-held_number : (rs : List Range) (x : Decimal) (n : ℕ) → held rs x ≡ Number n → (x ≡ decimal.Number n) × (inside rs n ≡ true)
+held_number : (rs : List Range) (x : Result ℕ ValueError) (n : ℕ) → held rs x ≡ Ok n → (x ≡ Ok n) × (inside rs n ≡ true)
 unfolding held
-held_number rs (decimal.Number m) n e =
+held_number rs (Ok m) n e =
     let q = chosen (inside rs m) outside_number e in
     let z : m ≡ n = cc in
-    (ap decimal.Number z, ap (inside rs) (sym z) ∙ q.0)
-held_number rs decimal.Malformed n e = (absurd (malformed_number e), absurd (malformed_number e))
-held_number rs decimal.Outside n e = (absurd (outside_number e), absurd (outside_number e))
+    (ap Ok z, ap (inside rs) (sym z) ∙ q.0)
+held_number rs (Err Malformed) n e = (absurd (malformed_number e), absurd (malformed_number e))
+held_number rs (Err Outside) n e = (absurd (outside_number e), absurd (outside_number e))
 
-pub value_read : (k : Kind) (n : ℕ) (v : List ℕ) → read_value k v ≡ Number n → (write_value k n ≡ v) × (fits_kind k n ≡ true)
+pub value_read : (k : Kind) (n : ℕ) (v : List ℕ) → read_value k v ≡ Ok n → (write_value k n ≡ v) × (fits_kind k n ≡ true)
 unfolding read_value write_value
 value_read (number rs) n v e =
     let h = held_number rs (read_number 65535 v) n e in
@@ -45,13 +45,13 @@ value_read decision n v e =
     (h.0, lt-ltb n (length answers) h.1)
 
 -- an empty value is of no kind
-value_empty : (k : Kind) → read_value k [] ≡ Malformed
+value_empty : (k : Kind) → read_value k [] ≡ (Err Malformed)
 unfolding read_value held read_number is_number read_keyword is_keyword
 value_empty (number rs) = refl
 value_empty (keyword ws) = refl
 value_empty decision = refl
 
-pub pair_read : (f : Pair) (n : ℕ) (p : List ℕ) → read_pair f p ≡ Number n → (write_pair f n ≡ p) × (fits_kind f.kind n ≡ true)
+pub pair_read : (f : Pair) (n : ℕ) (p : List ℕ) → read_pair f p ≡ Ok n → (write_pair f n ≡ p) × (fits_kind f.kind n ≡ true)
 unfolding read_pair write_pair
 pair_read f n p e =
     let v = value_of f.key p in

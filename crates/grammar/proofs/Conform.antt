@@ -6,12 +6,13 @@ use mathlib.Core.Logic.Iff
 use mathlib.Core.Logic.{◌⊎◌}
 use mathlib.Core.Path.{◌≡◌, refl}
 use borrow.Author.Tests.{le-leb}
+use Rattle.std.proofs.Common.{Result, Ok, Err}
+use Rattle.text.specs.declared.ValueError.{ValueError}
+use Rattle.text.specs.declared.ValueError.TheVariants.{Malformed, Outside}
 use Rattle.text.specs.Bytes.{ascii, same, value_of, is_keyword}
 use Rattle.text.specs.Number.{number_of, is_number}
 use Rattle.word.specs.Profile.{Profile}
 use Rattle.word.specs.Field.{inside}
-use Rattle.grammar.specs.declared.Value.{Value}
-use Rattle.grammar.specs.declared.Value.TheVariants.{Number, Malformed, Outside}
 use Rattle.grammar.specs.declared.LineKind.{LineKind}
 use Rattle.grammar.specs.declared.LineKind.TheVariants.{Op, Plan, Row, Spare}
 use Rattle.grammar.specs.Form.{Kind, number, keyword, decision, Pair, Reading, place_of, read_keyword, read_value, read_pair, followed, read_form}
@@ -43,11 +44,11 @@ form_judged (f ∷ fs) (p ∷ ps) h =
 
 module _ (P : Profile) (ps : List (List ℕ)) where
   -- the parts after the name, where m is what it names and d what it is read as
-  abbrev AfterJudged : Bool → Named → Value → Type 0
+  abbrev AfterJudged : Bool → Named → Result ℕ ValueError → Type 0
   AfterJudged a m d = Judged ((a ≡ true) × AfterName m ps) (IsUnknown m) (OutsideAfter m ps) (named P d ps)
 
   -- the name is a keyword or not, and known or not
-  name_judged : (a b : Bool) (o : ℕ) → AfterJudged a (cond b (form (op_form P o)) none) (cond a (cond b (Number o) Outside) Malformed)
+  name_judged : (a b : Bool) (o : ℕ) → AfterJudged a (cond b (form (op_form P o)) none) (cond a (cond b (Ok o) (Err Outside)) (Err Malformed))
   unfolding named
   name_judged false b o = refuses20 refl (λ h. false≢true h.0)
   name_judged true true o = in_words besides Iff.rfl (number_before o (form_judged (op_form P o) ps (low_op P o)))

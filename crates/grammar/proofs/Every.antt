@@ -1,10 +1,9 @@
 -- A test of every member of a list.
-use Prim.Native.Nat.{ℕ, zero, suc, ◌<◌}
+use Prim.Native.Nat.{ℕ, zero, suc}
 use mathlib.Core.Bool.{Bool, true, ◌&&◌, and-eq-true_iff}
 use mathlib.Core.List.{List, [], ◌∷◌}
 use mathlib.Core.Path.{◌≡◌}
-use native.Mathlib.Nat.{le_of_suc-le-suc, not-suc-le-zero}
-use lib.ListN.{get_or, length}
+use lib.ListN.{get_or}
 
 abbrev pub every : {A : Type 0} → (A → Bool) → List A → Bool
 every t [] = true
@@ -15,9 +14,3 @@ pub every_at : {A : Type 0} (t : A → Bool) (l : List A) (z : A) (n : ℕ) → 
 every_at t [] z n h e = e
 every_at t (x ∷ l) z zero h e = ((and-eq-true_iff (t x) (every t l)).0 h).0
 every_at t (x ∷ l) z (suc n) h e = every_at t l z n ((and-eq-true_iff (t x) (every t l)).0 h).1 e
-
--- what holds of every member holds at each place within the list
-pub every_below : {A : Type 0} (t : A → Bool) (l : List A) (z : A) (n : ℕ) → every t l ≡ true → n < length l → t (get_or l n z) ≡ true
-every_below t [] z n h e = absurd (not-suc-le-zero e)
-every_below t (x ∷ l) z zero h e = ((and-eq-true_iff (t x) (every t l)).0 h).0
-every_below t (x ∷ l) z (suc n) h e = every_below t l z n ((and-eq-true_iff (t x) (every t l)).0 h).1 (le_of_suc-le-suc e)

@@ -8,7 +8,8 @@ use mathlib.Core.Logic.{◌↔◌, ◌⊎◌, inl, inr, ⊎_elim}
 use mathlib.Core.Path.{◌≡◌, refl, ap}
 use native.Mathlib.Omega.{arith}
 use lib.ListN.{length}
-use Rattle.grammar.specs.declared.Value.TheVariants.{Number, Malformed, Outside}
+use Rattle.std.proofs.Common.{Ok, Err}
+use Rattle.text.specs.declared.ValueError.TheVariants.{Malformed, Outside}
 use Rattle.grammar.specs.Form.{Reading, values, refused, before, all_pairs, unknown, at_end, decided}
 
 pub data Judged (well strange outside : Type 0) (r : Reading) : Type 0 where
@@ -52,31 +53,31 @@ unknown_judged n ps {s} {o} j = go (all_pairs ps)
 -- ---- a value before the rest of a line
 
 module _ {w o : Type 0} {r : Reading} where
-  pub number_before : {s : Type 0} (n : ℕ) → Judged w s o r → Judged w s o (before (Number n) r)
+  pub number_before : {s : Type 0} (n : ℕ) → Judged w s o r → Judged w s o (before (Ok n) r)
   unfolding before
-  number_before n (passes ns e w s o) = passes (n ∷ ns) (ap (before (Number n)) e) w s o
-  number_before n (refuses20 e w) = refuses20 (ap (before (Number n)) e) w
-  number_before n (refuses21 e w s) = refuses21 (ap (before (Number n)) e) w s
-  number_before n (refuses22 e w s o) = refuses22 (ap (before (Number n)) e) w s o
+  number_before n (passes ns e w s o) = passes (n ∷ ns) (ap (before (Ok n)) e) w s o
+  number_before n (refuses20 e w) = refuses20 (ap (before (Ok n)) e) w
+  number_before n (refuses21 e w s) = refuses21 (ap (before (Ok n)) e) w s
+  number_before n (refuses22 e w s o) = refuses22 (ap (before (Ok n)) e) w s o
 
   -- 20 is the lowest number
-  malformed_before : Judged w ⊥ o r → before Malformed r ≡ refused 20
+  malformed_before : Judged w ⊥ o r → before (Err Malformed) r ≡ refused 20
   unfolding before
-  malformed_before (passes ns e w s o) = ap (before Malformed) e
-  malformed_before (refuses20 e w) = ap (before Malformed) e
+  malformed_before (passes ns e w s o) = ap (before (Err Malformed)) e
+  malformed_before (refuses20 e w) = ap (before (Err Malformed)) e
   malformed_before (refuses21 e w s) = absurd s
-  malformed_before (refuses22 e w s o) = ap (before Malformed) e
+  malformed_before (refuses22 e w s o) = ap (before (Err Malformed)) e
 
-  outside_before : {p : Type 0} → p → Judged w ⊥ o r → Judged w ⊥ p (before Outside r)
+  outside_before : {p : Type 0} → p → Judged w ⊥ o r → Judged w ⊥ p (before (Err Outside) r)
   unfolding before
-  outside_before h (passes ns e w s o) = refuses22 (ap (before Outside) e) w s h
-  outside_before h (refuses20 e w) = refuses20 (ap (before Outside) e) w
+  outside_before h (passes ns e w s o) = refuses22 (ap (before (Err Outside)) e) w s h
+  outside_before h (refuses20 e w) = refuses20 (ap (before (Err Outside)) e) w
   outside_before h (refuses21 e w s) = absurd s
-  outside_before h (refuses22 e w s o) = refuses22 (ap (before Outside) e) w s h
+  outside_before h (refuses22 e w s o) = refuses22 (ap (before (Err Outside)) e) w s h
 
   -- a value that has the right shape or not, and fits or not
   pub before_judged : (a b : Bool) (n : ℕ) → Judged w ⊥ o r
-      → Judged ((a ≡ true) × w) ⊥ ((b ≡ false) ⊎ ((true ≡ true) × o)) (before (cond a (cond b (Number n) Outside) Malformed) r)
+      → Judged ((a ≡ true) × w) ⊥ ((b ≡ false) ⊎ ((true ≡ true) × o)) (before (cond a (cond b (Ok n) (Err Outside)) (Err Malformed)) r)
   before_judged false b n j = refuses20 (malformed_before j) (λ h. false≢true h.0)
   before_judged true true n j =
       in_words besides (λ h. inr (refl, h), ⊎_elim (λ e. absurd (true≢false e)) (λ h. h.1)) (number_before n j)
@@ -85,7 +86,7 @@ module _ {w o : Type 0} {r : Reading} where
 -- a keyword or none, and one that is yes, or no, or another: after a yes r is what the rest of the line is, after a no the line has to end
 pub decided_judged : {w o : Type 0} {r : Reading} (a y n : Bool) (ps : List (List ℕ)) → Judged w ⊥ o r
     → Judged ((a ≡ true) × cond y w (cond n (ps ≡ []) (all_pairs ps ≡ true))) ⊥ ((cond y true (cond n true false) ≡ false) ⊎ ((y ≡ true) × o))
-    (decided (cond a (cond y (Number 0) (cond n (Number 1) Outside)) Malformed) r ps)
+    (decided (cond a (cond y (Ok 0) (cond n (Ok 1) (Err Outside))) (Err Malformed)) r ps)
 unfolding decided
 decided_judged false y n ps j = refuses20 refl (λ h. false≢true h.0)
 decided_judged true true n ps j = before_judged true true 0 j

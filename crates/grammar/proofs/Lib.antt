@@ -14,6 +14,5 @@ pub mod Low
 pub mod Spots
 pub mod Conform
 pub mod Exactly
-pub mod Ranges
-pub mod Walk
+pub mod Proper
 pub mod Cases

@@ -6,11 +6,12 @@ use mathlib.Core.Path.{◌≡◌, refl, ap, ap₂, ◌∙◌}
 use native.Mathlib.Omega.{arith}
 use lib.Dec.{ltb}
 use lib.ListN.{length}
+use Rattle.std.proofs.Common.{Result, Ok, Err}
+use Rattle.text.specs.declared.ValueError.{ValueError}
+use Rattle.text.specs.declared.ValueError.TheVariants.{Malformed, Outside}
 use Rattle.text.specs.Bytes.{space}
 use Rattle.text.specs.Theorems.{all_lack}
 use Rattle.word.specs.Profile.{Profile, LP5523}
-use Rattle.grammar.specs.declared.Value.{Value}
-use Rattle.grammar.specs.declared.Value.TheVariants.{Number, Malformed, Outside}
 use Rattle.grammar.specs.declared.LineKind.{LineKind}
 use Rattle.grammar.specs.declared.LineKind.TheVariants.{Op, Plan, Row, Spare}
 use Rattle.grammar.specs.Form.{Pair, Reading, values, read_value, read_pair, before, unknown, read_form, write_value, write_pair, write_form}
@@ -54,11 +55,11 @@ unfolding op_names
 names_count LP5523 = refl
 
 -- the operation's place, and the values after it
-pub named_values : (P : Profile) (v : Value) (ps : List (List ℕ)) (ns : List ℕ) → named P v ps ≡ values ns → First v (λ o. read_form (op_form P o) ps) ns
+pub named_values : (P : Profile) (v : Result ℕ ValueError) (ps : List (List ℕ)) (ns : List ℕ) → named P v ps ≡ values ns → First v (λ o. read_form (op_form P o) ps) ns
 unfolding named unknown
-named_values P (Number o) ps ns e = before_number o (λ n. read_form (op_form P n) ps) ns e
-named_values P Malformed ps ns e = absurd (refused_values e)
-named_values P Outside ps ns e = absurd (refused_values e)
+named_values P (Ok o) ps ns e = before_number o (λ n. read_form (op_form P n) ps) ns e
+named_values P (Err Malformed) ps ns e = absurd (refused_values e)
+named_values P (Err Outside) ps ns e = absurd (refused_values e)
 
 op_read : (P : Profile) (ps : List (List ℕ)) (ns : List ℕ) → read_op P ps ≡ values ns → (write_op P ns ≡ ps) × (fits_op P ns ≡ true)
 unfolding read_op write_op fits_op read_pair read_value write_pair write_value
@@ -78,7 +79,7 @@ op_written P (o ∷ ns) e =
     let q = (and-eq-true_iff (ltb o (length (op_lines P))) (fits_form (op_form P o) ns)).0 e in
     let n = pair_written (op_pair P) o (sound_name P) (ap (ltb o) (names_count P) ∙ q.0) in
     let r = form_written (op_form P o) ns (sound_op P o) q.1 in
-    ap (λ (v : Value). named P v (write_form (op_form P o) ns)) n ∙ ap (before (Number o)) r
+    ap (λ (v : Result ℕ ValueError). named P v (write_form (op_form P o) ns)) n ∙ ap (before (Ok o)) r
 
 op_lacks : (P : Profile) (d : ℕ) → d ≤ space → (ns : List ℕ) → all_lack d (write_op P ns) ≡ true
 unfolding write_op write_pair write_value

@@ -7,12 +7,12 @@ use mathlib.Core.Path.{◌≡◌, refl, ◌∙◌}
 use native.Mathlib.Omega.{arith}
 use borrow.Author.Tests.{leb-true, leb-false}
 use lib.Dec.{leb}
+use Rattle.std.proofs.Common.{Ok, Err}
+use Rattle.text.specs.declared.ValueError.TheVariants.{Malformed, Outside}
 use Rattle.text.specs.Number.{number_of, is_number, read_number}
-use Rattle.text.specs.declared.Decimal.TheVariants as decimal
 use Rattle.word.specs.Profile.{Profile, LP5523, Range}
 use Rattle.word.specs.Field.{inside}
 use Rattle.word.proofs.Fields.{above_range}
-use Rattle.grammar.specs.declared.Value.TheVariants.{Number, Malformed, Outside}
 use Rattle.grammar.specs.Form.{Kind, number, keyword, decision, Pair, held}
 use Rattle.grammar.specs.Grammar.{OpLine, op_lines, plan_form, op_form, word_form}
 use Rattle.grammar.proofs.Every.{every, every_at}
@@ -38,14 +38,14 @@ low_outside (r ∷ rs) n h l =
 
 -- what a number is read as
 pub number_is : (rs : List Range) (v : List ℕ) → low_ranges rs ≡ true
-    → held rs (read_number 65535 v) ≡ cond (is_number v) (cond (inside rs (number_of v)) (Number (number_of v)) Outside) Malformed
+    → held rs (read_number 65535 v) ≡ cond (is_number v) (cond (inside rs (number_of v)) (Ok (number_of v)) (Err Outside)) (Err Malformed)
 unfolding held read_number
 number_is rs v h = go (is_number v) (leb (number_of v) 65535) refl
   where
     n : ℕ
     n = number_of v
 
-    go : (t u : Bool) → leb n 65535 ≡ u → held rs (cond t (cond u (decimal.Number n) decimal.Outside) decimal.Malformed) ≡ cond t (cond (inside rs n) (Number n) Outside) Malformed
+    go : (t u : Bool) → leb n 65535 ≡ u → held rs (cond t (cond u (Ok n) (Err Outside)) (Err Malformed)) ≡ cond t (cond (inside rs n) (Ok n) (Err Outside)) (Err Malformed)
     go true true e = refl
     go true false e = rw (low_outside rs n h (leb-false n 65535 e))
     go false u e = refl

@@ -5,9 +5,10 @@ use mathlib.Core.List.{List, [], ◌∷◌, map}
 use mathlib.Core.Path.{◌≡◌, refl, ap, ◌∙◌}
 use native.Mathlib.Omega.{arith}
 use lib.ListN.{get_or}
+use Rattle.std.proofs.Common.{Result, Ok, Err}
+use Rattle.text.specs.declared.ValueError.{ValueError}
+use Rattle.text.specs.declared.ValueError.TheVariants.{Malformed, Outside}
 use Rattle.text.specs.Bytes.{same, is_keyword}
-use Rattle.grammar.specs.declared.Value.{Value}
-use Rattle.grammar.specs.declared.Value.TheVariants.{Number, Malformed, Outside}
 use Rattle.grammar.specs.Form.{Pair, place_of, read_keyword}
 use Rattle.grammar.specs.Grammar.{OpLine}
 use Rattle.grammar.specs.Conditions.{among, form, none, form_named}
@@ -17,20 +18,20 @@ abbrev pub spot : List (List ℕ) → List ℕ → ℕ
 spot [] v = zero
 spot (w ∷ ws) v = cond (same v w) zero (suc (spot ws v))
 
-place_is : (ws : List (List ℕ)) (i : ℕ) (v : List ℕ) → place_of ws i v ≡ cond (among ws v) (Number (i + spot ws v)) Outside
+place_is : (ws : List (List ℕ)) (i : ℕ) (v : List ℕ) → place_of ws i v ≡ cond (among ws v) (Ok (i + spot ws v)) (Err Outside)
 unfolding place_of
 place_is [] i v = refl
-place_is (w ∷ ws) i v = go (same v w) (place_is ws (i + 1) v ∙ ap (λ (n : ℕ). cond (among ws v) (Number n) Outside) (omega arith))
+place_is (w ∷ ws) i v = go (same v w) (place_is ws (i + 1) v ∙ ap (λ (n : ℕ). cond (among ws v) (Ok n) (Err Outside)) (omega arith))
   where
-    go : (t : Bool) → place_of ws (i + 1) v ≡ cond (among ws v) (Number (i + suc (spot ws v))) Outside
-        → cond t (Number i) (place_of ws (i + 1) v) ≡ cond (cond t true (among ws v)) (Number (i + cond t zero (suc (spot ws v)))) Outside
-    go true e = ap Number (omega arith)
+    go : (t : Bool) → place_of ws (i + 1) v ≡ cond (among ws v) (Ok (i + suc (spot ws v))) (Err Outside)
+        → cond t (Ok i) (place_of ws (i + 1) v) ≡ cond (cond t true (among ws v)) (Ok (i + cond t zero (suc (spot ws v)))) (Err Outside)
+    go true e = ap Ok (omega arith)
     go false e = e
 
 -- what a keyword is read as
-pub keyword_is : (ws : List (List ℕ)) (v : List ℕ) → read_keyword ws v ≡ cond (is_keyword v) (cond (among ws v) (Number (spot ws v)) Outside) Malformed
+pub keyword_is : (ws : List (List ℕ)) (v : List ℕ) → read_keyword ws v ≡ cond (is_keyword v) (cond (among ws v) (Ok (spot ws v)) (Err Outside)) (Err Malformed)
 unfolding read_keyword
-keyword_is ws v = ap (λ (d : Value). cond (is_keyword v) d Malformed) (place_is ws 0 v ∙ ap (λ (n : ℕ). cond (among ws v) (Number n) Outside) (omega arith))
+keyword_is ws v = ap (λ (d : Result ℕ ValueError). cond (is_keyword v) d (Err Malformed)) (place_is ws 0 v ∙ ap (λ (n : ℕ). cond (among ws v) (Ok n) (Err Outside)) (omega arith))
 
 -- ---- the lines of operations
 

@@ -1,14 +1,12 @@
 -- Lines of pairs: what a value may be, how a line's pairs are read, and how they are written (document 01, "The sheet", and of "Numbers of
 -- refusal" 20, 21, 22 and the paragraph under the table).
-use Rattle.std.specs.Prelude.{ℕ, ◌+◌, min, Bool, true, cond, ◌&&◌, List, [], ◌∷◌, ◌++◌, eqb, get_or}
+use Rattle.std.specs.Prelude.{ℕ, ◌+◌, min, Bool, true, cond, ◌&&◌, List, [], ◌∷◌, ◌++◌, eqb, get_or, Result, Ok, Err}
+use Rattle.text.specs.declared.ValueError.{ValueError}
+use Rattle.text.specs.declared.ValueError.TheVariants.{Malformed, Outside}
 use Rattle.text.specs.Bytes.{ascii, equals_sign, same, value_of, is_keyword, is_pair}
 use Rattle.text.specs.Number.{read_number, decimal_of}
-use Rattle.text.specs.declared.Decimal.{Decimal}
-use Rattle.text.specs.declared.Decimal.TheVariants as decimal
 use Rattle.word.specs.Field.{inside}
 use Rattle.word.specs.Profile.{Range}
-use Rattle.grammar.specs.declared.Value.{Value}
-use Rattle.grammar.specs.declared.Value.TheVariants.{Number, Malformed, Outside}
 
 -- What the value of a pair may be: a decimal number in one of some ranges; one of some keywords, which stands for its place among them; or
 -- yes or no, where the line ends after a no.
@@ -32,37 +30,36 @@ pub data Reading : Type 0 where
   refused : ℕ → Reading
 
 -- The place of a keyword among some, counted from i.
-unfoldable pub place_of : List (List ℕ) → ℕ → List ℕ → Value
-place_of [] i v = Outside
-place_of (w ∷ ws) i v = cond (same v w) (Number i) (place_of ws (i + 1) v)
+unfoldable pub place_of : List (List ℕ) → ℕ → List ℕ → Result ℕ ValueError
+place_of [] i v = Err Outside
+place_of (w ∷ ws) i v = cond (same v w) (Ok i) (place_of ws (i + 1) v)
 
 -- "a word that isn't allowed .. is 22"; a value that is no keyword at all is malformed.
-unfoldable pub read_keyword : List (List ℕ) → List ℕ → Value
-read_keyword ws v = cond (is_keyword v) (place_of ws 0 v) Malformed
+unfoldable pub read_keyword : List (List ℕ) → List ℕ → Result ℕ ValueError
+read_keyword ws v = cond (is_keyword v) (place_of ws 0 v) (Err Malformed)
 
 -- "operand outside its field" is 22. No field goes beyond 65535.
-unfoldable pub held : List Range → Decimal → Value
-held rs (decimal.Number n) = cond (inside rs n) (Number n) Outside
-held rs decimal.Malformed = Malformed
-held rs decimal.Outside = Outside
+unfoldable pub held : List Range → Result ℕ ValueError → Result ℕ ValueError
+held rs (Ok n) = cond (inside rs n) (Ok n) (Err Outside)
+held rs (Err e) = Err e
 
-unfoldable pub read_value : Kind → List ℕ → Value
+unfoldable pub read_value : Kind → List ℕ → Result ℕ ValueError
 read_value (number rs) v = held rs (read_number 65535 v)
 read_value (keyword ws) v = read_keyword ws v
 read_value decision v = read_keyword answers v
 
 -- The value of a pair that has to be f. A pair with another key has no value, and is malformed.
-unfoldable pub read_pair : Pair → List ℕ → Value
+unfoldable pub read_pair : Pair → List ℕ → Result ℕ ValueError
 read_pair f p = read_value f.kind (value_of f.key p)
 
 -- A value before those of the pairs after it. "In it 20, 21, 22": of two refusals in a line the lower number is given.
-unfoldable pub before : Value → Reading → Reading
-before (Number n) (values ns) = values (n ∷ ns)
-before (Number n) (refused k) = refused k
-before Malformed (values ns) = refused 20
-before Malformed (refused k) = refused (min 20 k)
-before Outside (values ns) = refused 22
-before Outside (refused k) = refused (min 22 k)
+unfoldable pub before : Result ℕ ValueError → Reading → Reading
+before (Ok n) (values ns) = values (n ∷ ns)
+before (Ok n) (refused k) = refused k
+before (Err Malformed) (values ns) = refused 20
+before (Err Malformed) (refused k) = refused (min 20 k)
+before (Err Outside) (values ns) = refused 22
+before (Err Outside) (refused k) = refused (min 22 k)
 
 unfoldable pub all_pairs : List (List ℕ) → Bool
 all_pairs [] = true
@@ -78,12 +75,12 @@ at_end [] = values []
 at_end (p ∷ ps) = refused 20
 
 -- After a yes or no: r is what the pairs ps are by the rest of the form.
-unfoldable pub decided : Value → Reading → List (List ℕ) → Reading
-decided (Number n) r ps = before (Number n) (cond (eqb n 0) r (at_end ps))
-decided Malformed r ps = refused 20
-decided Outside r ps = unknown 22 ps
+unfoldable pub decided : Result ℕ ValueError → Reading → List (List ℕ) → Reading
+decided (Ok n) r ps = before (Ok n) (cond (eqb n 0) r (at_end ps))
+decided (Err Malformed) r ps = refused 20
+decided (Err Outside) r ps = unknown 22 ps
 
-unfoldable pub followed : Kind → Value → Reading → List (List ℕ) → Reading
+unfoldable pub followed : Kind → Result ℕ ValueError → Reading → List (List ℕ) → Reading
 followed (number rs) d r ps = before d r
 followed (keyword ws) d r ps = before d r
 followed decision d r ps = decided d r ps

@@ -1,6 +1,8 @@
 -- The grammar of the sheets as data (document 01, "Words", the column "Sheet line", line by line and in its order; "The sheet").
-use Rattle.std.specs.Prelude.{ℕ, cond, List, [], ◌∷◌, ◌++◌, map, eqb, get_or}
+use Rattle.std.specs.Prelude.{ℕ, cond, List, [], ◌∷◌, ◌++◌, map, eqb, get_or, Result, Ok, Err}
 use Prim.Native.String.{String}
+use Rattle.text.specs.declared.ValueError.{ValueError}
+use Rattle.text.specs.declared.ValueError.TheVariants.{Malformed, Outside}
 use Rattle.text.specs.Bytes.{ascii, space, equals_sign, split, join, value_of}
 use Rattle.word.specs.Profile.{Profile, ◌to◌}
 use Rattle.word.specs.Field.{Field, flag, time, byte, skip, loops, step, address, output, triggers, ranges_of, upto}
@@ -14,8 +16,6 @@ use Rattle.word.specs.declared.MuxAtOp.TheVariants.{MuxMapStart, MuxLdEnd, MuxLd
 use Rattle.word.specs.declared.MuxMoveOp.TheVariants.{MuxMapNext, MuxLdNext, MuxMapPrev, MuxLdPrev}
 use Rattle.word.specs.declared.Word.{Word}
 use Rattle.word.specs.declared.Word.TheVariants.{Rst, Ramp, Wait, Set, RampVar, SetVar, BranchVar, Jump, Arith, ArithVar, MuxAt, MuxClr, MuxSel, MuxMove, Branch, End, Int, Trigger}
-use Rattle.grammar.specs.declared.Value.{Value}
-use Rattle.grammar.specs.declared.Value.TheVariants.{Number, Malformed, Outside}
 use Rattle.grammar.specs.declared.LineKind.{LineKind}
 use Rattle.grammar.specs.declared.LineKind.TheVariants.{Op, Plan, Row, Spare}
 use Rattle.grammar.specs.Form.{number, keyword, decision, Pair, Reading, refused, before, unknown, read_keyword, read_form, write_form}
@@ -118,10 +118,10 @@ unfoldable pub word_form : String → List Pair
 word_form k = number16 (ascii k) ∷ []
 
 -- A line that begins with an operation: its first value is the operation's place in the table. "21: unknown op".
-unfoldable pub named : Profile → Value → List (List ℕ) → Reading
-named P (Number o) ps = before (Number o) (read_form (op_form P o) ps)
-named P Malformed ps = refused 20
-named P Outside ps = unknown 21 ps
+unfoldable pub named : Profile → Result ℕ ValueError → List (List ℕ) → Reading
+named P (Ok o) ps = before (Ok o) (read_form (op_form P o) ps)
+named P (Err Malformed) ps = refused 20
+named P (Err Outside) ps = unknown 21 ps
 
 unfoldable pub read_op : Profile → List (List ℕ) → Reading
 read_op P [] = refused 20

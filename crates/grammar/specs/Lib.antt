@@ -1,6 +1,7 @@
 pub mod Form
 pub mod Grammar
 pub mod Values
+pub mod Entries
 pub mod Conditions
 pub mod Theorems
 pub mod Cases

@@ -1,18 +1,31 @@
--- What the functions that read and write lines are given and answer, and the values that it stands for.
-use Rattle.std.specs.Prelude.{ℕ, List, [], ◌∷◌, get_or}
-use Rattle.grammar.specs.declared.Values.{Values}
-use Rattle.grammar.specs.declared.LineRead.{LineRead}
-use Rattle.grammar.specs.declared.LineRead.TheVariants.{Read, Refused}
+-- What the functions that read and write lines are given and answer, and the values and refusals that it stands for.
+use Rattle.std.specs.Prelude.{ℕ, List, [], ◌∷◌, get_or, Result, Ok, Err}
+use Rattle.text.specs.declared.ValueError.{ValueError}
+use Rattle.text.specs.declared.ValueError.TheVariants as value
+use Rattle.grammar.specs.declared.LineError.{LineError}
+use Rattle.grammar.specs.declared.LineError.TheVariants.{Malformed, UnknownOp, OutsideField}
 use Rattle.grammar.specs.Form.{Reading, values, refused}
 
--- The values of a line: at most seven, 0 past the last.
-unfoldable pub values_of : List ℕ → Values
-values_of ns =
-    record { a = get_or ns 0 0; b = get_or ns 1 0; c = get_or ns 2 0; d = get_or ns 3 0; e = get_or ns 4 0; f = get_or ns 5 0; g = get_or ns 6 0 }
+-- The values of a line: seven, 0 past the last.
+unfoldable pub values_of : List ℕ → List ℕ
+values_of ns = get_or ns 0 0 ∷ get_or ns 1 0 ∷ get_or ns 2 0 ∷ get_or ns 3 0 ∷ get_or ns 4 0 ∷ get_or ns 5 0 ∷ get_or ns 6 0 ∷ []
 
-unfoldable pub list_of : Values → List ℕ
-list_of v = v.a ∷ v.b ∷ v.c ∷ v.d ∷ v.e ∷ v.f ∷ v.g ∷ []
+abbrev pub padded : Reading → Reading
+padded (values ns) = values (values_of ns)
+padded (refused k) = refused k
 
-unfoldable pub line_read_of : Reading → LineRead
-line_read_of (values ns) = Read (values_of ns)
-line_read_of (refused k) = Refused k
+-- "Numbers of refusal".
+abbrev pub number_of : LineError → ℕ
+number_of Malformed = 20
+number_of UnknownOp = 21
+number_of OutsideField = 22
+
+-- Why a line is refused for a value.
+abbrev pub error_for : ValueError → LineError
+error_for value.Malformed = Malformed
+error_for value.Outside = OutsideField
+
+-- What a function says that has read a line.
+abbrev pub reading_of : Result (List ℕ) LineError → Reading
+reading_of (Ok ns) = values ns
+reading_of (Err e) = refused (number_of e)

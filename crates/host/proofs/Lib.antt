@@ -1,3 +1,4 @@
 mod Addresses
+mod Asked
 mod Bytes
 mod Holders

@@ -6,7 +6,6 @@ mod bursts;
 mod interrupts;
 mod listed;
 mod new;
-mod success;
 mod write;
 
 pub use bursts::burst;

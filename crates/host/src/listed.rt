@@ -6,6 +6,7 @@ ghost use Rattle.machine.specs.Burst.{is_unlisted};
 
 use machine::Register;
 
+#[tactic(auto, using(crate::proofs::Addresses::output_at, crate::proofs::Addresses::start_at, crate::proofs::Addresses::memory_at, crate::proofs::Addresses::none_at), unfolding(machine::specs::Registers::register_at))]
 pub(super) fn register_at(address: u16) -> Register
     ensures { result ≡ register_at LP5523 address }
 {
@@ -25,10 +26,5 @@ pub(super) fn register_at(address: u16) -> Register
 pub(super) fn is_listed(address: u16) -> bool
     ensures { result ≡ not (is_unlisted (register_at LP5523 address)) }
 {
-    let register = register_at(address);
-    if let Register::Unlisted = register {
-        false
-    } else {
-        true
-    }
+    !matches!(register_at(address), Register::Unlisted)
 }

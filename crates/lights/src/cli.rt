@@ -1,5 +1,6 @@
 // The command line: arguments, standard input, files, answers.
 pub mod arguments;
+pub mod command;
 pub mod commands;
 pub mod files;
 pub mod help;

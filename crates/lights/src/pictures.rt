@@ -1,8 +1,6 @@
-// Pictures of the outputs over time, written into lent bytes. A picture begins `from` beats after
-// the given chip, and has so many beats; both together are at most a run's limit. What is returned
-// is the text's length, also where the lent bytes are fewer.
+// Pictures of the outputs over time. A picture begins `from` beats after the given chip, and has so many
+// beats; both together are at most a run's limit.
 mod axis;
-mod columns;
 mod curves;
 mod levels;
 mod marks;
@@ -11,6 +9,7 @@ mod patterns;
 mod pixels;
 mod rows;
 mod scale;
+mod span;
 mod steps;
 mod times;
 mod xml;

@@ -6,7 +6,6 @@ pub mod ops;
 pub mod reader;
 pub mod say;
 pub mod shown;
-mod tables;
 pub mod templates;
 mod values;
 pub mod verdicts;

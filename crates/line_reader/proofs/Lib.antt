@@ -1,3 +1,5 @@
 mod Gathered
-mod Beginnings
-mod Others
+mod Places
+mod Lines
+mod Parts
+mod Turns

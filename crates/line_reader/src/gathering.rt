@@ -1,62 +1,56 @@
-// The values of a line, gathered in an array. `refusal` is the lowest number of a refusal so far, 0 where
-// there is none.
-ghost use Rattle.std.specs.Prelude.{◌≡◌};
-ghost use Rattle.line_reader.specs.internal.Steps.{lowest, number_or, refusal_with, gathered};
+// The values of a line, gathered as its pairs are read.
+ghost use Rattle.std.specs.Prelude.{◌≡◌, ◌<◌};
+ghost use Rattle.line_reader.specs.internal.Steps.{none_gathered, taken, with_value, all_of};
 
-use super::sequence::lower;
-use grammar::{LineRead, Value, Values};
+use grammar::{LineError, Values};
+use text::ValueError;
 
-#[tactic(auto, unfolding(crate::specs::internal::Steps::lowest))]
-pub(super) fn lowest(refusal: u16, k: u16) -> u16
-    ensures { result ≡ lowest refusal k }
-{
-    if refusal == 0 {
-        return k;
-    }
-    lower(refusal, k)
+// `outside` is a flag, since a malformed value later in the line has the lower number; the count stands
+// beside an array, since there is no heap.
+#[derive(Clone, Copy)]
+pub(super) struct Gathered {
+    // the first `count` are read; the others are 0
+    pub values: Values,
+    pub count: usize,
+    // whether one was outside its field
+    pub outside: bool,
 }
 
-// The number that is kept of a value: 0 where there is none.
-#[tactic(auto, unfolding(crate::specs::internal::Steps::number_or))]
-pub(super) fn number_in(value: Value) -> u16
-    ensures { result ≡ number_or 0 value }
-{
-    let Value::Number(n) = value else {
-        return 0;
-    };
-    n
-}
+impl Gathered {
+    pub fn new() -> Self
+        ensures { result ≡ none_gathered }
+    {
+        Gathered {
+            values: [0; 7],
+            count: 0,
+            outside: false,
+        }
+    }
 
-// The refusal so far, a value among what is judged.
-#[tactic(auto, unfolding(crate::specs::internal::Steps::refusal_with))]
-pub(super) fn refusal_with(refusal: u16, value: Value) -> u16
-    ensures { result ≡ refusal_with refusal value }
-{
-    match value {
-        Value::Number(_) => refusal,
-        Value::Malformed => lowest(refusal, 20),
-        Value::Outside => lowest(refusal, 22),
+    // One value more. After a malformed one nothing else counts, its number being the lowest.
+    #[tactic(auto, unfolding(crate::specs::internal::Steps::taken, crate::specs::internal::Steps::with_value))]
+    pub fn take(&mut self, value: Result<u16, ValueError>) -> Result<(), LineError>
+        requires { self.old.count < 7 }
+        ensures answer { result ≡ taken value }
+        ensures after { self.new ≡ with_value self.old value }
+    {
+        match value {
+            Ok(n) => self.values[self.count] = n,
+            Err(ValueError::Malformed) => return Err(LineError::Malformed),
+            Err(ValueError::Outside) => self.outside = true,
+        }
+        self.count += 1;
+        Ok(())
     }
-}
 
-// The line's values, where nothing is refused: neither before nor in the rest.
-#[tactic(auto, unfolding(crate::specs::internal::Steps::gathered, grammar::specs::Values::values_of))]
-pub(super) fn gathered(values: [u16; 7], refusal: u16, rest: LineRead) -> LineRead
-    ensures { result ≡ gathered values refusal rest }
-{
-    if let LineRead::Refused(k) = rest {
-        return LineRead::Refused(lowest(refusal, k));
+    // The values of a line that has ended.
+    #[tactic(auto, unfolding(crate::specs::internal::Steps::all_of))]
+    pub fn finish(self) -> Result<Values, LineError>
+        ensures { result ≡ all_of self }
+    {
+        if self.outside {
+            return Err(LineError::OutsideField);
+        }
+        Ok(self.values)
     }
-    if refusal != 0 {
-        return LineRead::Refused(refusal);
-    }
-    LineRead::Read(Values {
-        a: values[0],
-        b: values[1],
-        c: values[2],
-        d: values[3],
-        e: values[4],
-        f: values[5],
-        g: values[6],
-    })
 }

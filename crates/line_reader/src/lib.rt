@@ -1,13 +1,10 @@
 // A line of a sheet, read by the grammar's tables. Every text gets an answer.
 #![tactic(auto)]
 
+mod forms;
 mod gathering;
-mod keywords;
-mod kinds;
-mod names;
-mod pairs;
 mod reading;
-mod sequence;
 mod shapes;
+mod values;
 
 pub use reading::read_line;

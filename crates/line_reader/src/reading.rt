@@ -1,94 +1,99 @@
 // A line, read.
-ghost use Rattle.std.specs.Prelude.{◌≡◌, [], ◌∷◌};
-ghost use Rattle.text.specs.Bytes.{ascii, space, split, value_of};
+ghost use Rattle.std.specs.Prelude.{IsTrue, ◌≡◌, List, ℕ, [], ◌∷◌, IfSome};
+ghost use Rattle.std.specs.Slice.Iter.{split_callee, split_steps};
+ghost use Rattle.std.specs.Option.{option_map};
+ghost use Rattle.text.specs.Bytes.{value_of};
 ghost use Rattle.text.specs.Number.{read_number};
 ghost use Rattle.word.specs.Profile.{LP5523, ◌to◌};
-ghost use Rattle.grammar.specs.Form.{held, read_form};
-ghost use Rattle.grammar.specs.Grammar.{number16, read_line};
-ghost use Rattle.grammar.specs.Values.{line_read_of};
-ghost use Rattle.line_reader.specs.internal.Steps.{Lent, read_plan_or_op, first_of, form_after};
+ghost use Rattle.grammar.specs.Form.{held};
+ghost use Rattle.grammar.specs.Grammar.{read_parts, read_line};
+ghost use Rattle.grammar.specs.Values.{padded, reading_of};
+ghost use Rattle.grammar.specs.Entries.{form_of, fits};
+ghost use Rattle.grammar.specs.internal.Tables.{line_read_of};
+ghost use Rattle.line_reader.specs.internal.Steps.{Gives, first_of, form_of_op, form_after, refused_op};
 
-use super::keywords::read_keyword;
-use super::kinds::read_number;
-use super::pairs::read_form;
-use super::sequence::before;
-use super::shapes::{at_end, stopped};
-use grammar::{LineKind, LineRead, NAME_AT, NAMES, OPS, PLAN_FORM, Value};
-use text::SPACE;
+use crate::forms::read_form;
+use crate::shapes::unknown_keyword;
+use crate::values::{read_number, read_op_name};
+use grammar::{LineError, LineKind, PLAN, Pair, Range, Values, op_lines};
+use std::slice::Split;
+use text::{SPACE, ValueError};
 
-// A line of one pair, whose value is a number of 16 bits.
-fn read_single(line: &[u8], key: &[u8]) -> LineRead
-    ensures { result ≡ line_read_of (read_form (number16 key.now ∷ []) (split space line.now)) }
+// The value of a part that has to be this key's number, from `least` to `most`.
+fn read_numbered(part: &[u8], key: &[u8], least: u16, most: u16) -> Result<u16, ValueError>
+    ensures { result ≡ held (least to most ∷ []) (read_number 65535 (value_of key.now part.now)) }
 {
-    let part = text_bytes::part_at(line, 0, SPACE);
-    let value = read_number(text_bytes::value_of(part, key));
-    before(value, at_end(line, part.len() + 1))
+    read_number(&[Range { least, most }], text_bytes::value_of(part, key))
 }
 
-// The engine's number in its plan line, where no other is allowed.
-#[tactic(auto, using(crate::proofs::Others::kept_in_one))]
-fn read_engine(part: &[u8], engine: u16) -> Value
-    ensures { result ≡ held (engine to engine ∷ []) (read_number 65535 (value_of (ascii "engine") part.now)) }
-{
-    let value = read_number(text_bytes::value_of(part, b"engine"));
-    let Value::Number(n) = value else {
-        return value;
-    };
-    if n == engine {
-        return value;
-    }
-    Value::Outside
-}
-
-// The first value of a plan line or an op line.
+// The first value of a line.
 #[tactic(auto, unfolding(crate::specs::internal::Steps::first_of))]
-fn read_first(bytes: &[u8], places: &[u16], part: &[u8], kind: LineKind) -> Value
-    requires { Lent bytes.now places.now }
+fn read_first(part: &[u8], kind: LineKind) -> Result<u16, ValueError>
     ensures { result ≡ first_of kind part.now }
 {
-    if let LineKind::Plan(engine) = kind {
-        return read_engine(part, engine);
+    match kind {
+        LineKind::Op => read_op_name(text_bytes::value_of(part, b"op")),
+        LineKind::Plan(engine) => read_numbered(part, b"engine", engine, engine),
+        LineKind::Row => read_numbered(part, b"row", 0, u16::MAX),
+        LineKind::Spare => read_numbered(part, b"spare", 0, u16::MAX),
     }
-    read_keyword(bytes, places, text_bytes::value_of(part, b"op"), 0, OPS)
 }
 
-// The form by which such a line goes on; past the last one where its op is unknown.
-#[tactic(auto, unfolding(crate::specs::internal::Steps::form_after, crate::specs::internal::Steps::number_or))]
-fn form_after(kind: LineKind, first: Value) -> usize
-    ensures { result ≡ form_after kind first }
+// The form of an operation, by its place; none where it is unknown.
+fn form_of_op(op: Result<u16, ValueError>) -> Option<&'static [Pair]>
+    ensures form { option_map (λ form. form_of form.now) result ≡ form_of_op op }
+    ensures room { IfSome result (λ form. IsTrue (fits form.now)) }
 {
-    if let LineKind::Plan(_) = kind {
-        return PLAN_FORM;
-    }
-    let Value::Number(o) = first else {
-        return PLAN_FORM + 1;
-    };
-    o as usize
+    let place = op.ok()?;
+    Some(op_lines().get(usize::from(place))?.form)
 }
 
-// A plan line, or else an op line. One call of `read_form` serves both, so that it can be inlined.
-fn read_pairs(line: &[u8], kind: LineKind) -> LineRead
-    ensures { result ≡ line_read_of (read_plan_or_op kind (split space line.now)) }
-{
-    let bytes = NAMES;
-    let places = NAME_AT;
-    let part = text_bytes::part_at(line, 0, SPACE);
-    let next = part.len() + 1;
-    let first = read_first(&bytes, &places, part, kind);
-    let form = form_after(kind, first);
-    if form > PLAN_FORM {
-        return stopped(line, next, first, 21);
-    }
-    read_form(&bytes, &places, line, next, first, form)
-}
-
-// The values of a line without its LF, or the number of its refusal.
-pub fn read_line(line: &[u8], kind: LineKind) -> LineRead
-    ensures { result ≡ line_read_of (read_line LP5523 kind line.now) }
+// The form by which a line goes on after its first value; none where its op is unknown.
+#[tactic(auto, unfolding(crate::specs::internal::Steps::form_after))]
+fn form_after(kind: LineKind, first: Result<u16, ValueError>) -> Option<&'static [Pair]>
+    ensures form { option_map (λ form. form_of form.now) result ≡ form_after kind first }
+    ensures room { IfSome result (λ form. IsTrue (fits form.now)) }
 {
     match kind {
-        LineKind::Row => read_single(line, b"row"),
-        LineKind::Spare => read_single(line, b"spare"),
-        _ => read_pairs(line, kind),
+        LineKind::Op => form_of_op(first),
+        LineKind::Plan(_) => Some(PLAN),
+        LineKind::Row | LineKind::Spare => Some(&[]),
     }
+}
+
+// Why an op line is refused whose op is unknown.
+fn refused_op<P: FnMut(&u8) -> bool>(
+    parts: &mut Split<'_, u8, P>,
+    op: Result<u16, ValueError>,
+) -> LineError
+    requires { P.IsAlwaysCallable (split_callee parts.old) }
+    ensures { (ps : List (List ℕ)) → Gives (split_steps P.FnMut) parts.old ps → result ≡ refused_op op ps }
+{
+    if let Err(ValueError::Outside) = op {
+        return unknown_keyword(parts, LineError::UnknownOp);
+    }
+    LineError::Malformed
+}
+
+// A line of one of the kinds. One call of `read_form` serves them all, so that it can be inlined.
+fn read_parts<P: FnMut(&u8) -> bool>(
+    parts: &mut Split<'_, u8, P>,
+    kind: LineKind,
+) -> Result<Values, LineError>
+    requires { P.IsAlwaysCallable (split_callee parts.old) }
+    ensures { (ps : List (List ℕ)) → Gives (split_steps P.FnMut) parts.old ps → result ≡ line_read_of (read_parts LP5523 kind ps) }
+{
+    let part = parts.next().ok_or(LineError::Malformed)?;
+    let first = read_first(part, kind);
+    let Some(form) = form_after(kind, first) else {
+        return Err(refused_op(parts, first));
+    };
+    read_form(parts, first, form)
+}
+
+// A line without its LF, read: its values, or why it is refused.
+pub fn read_line(line: &[u8], kind: LineKind) -> Result<Values, LineError>
+    ensures { reading_of result ≡ padded (read_line LP5523 kind line.now) }
+{
+    read_parts(&mut line.split(|&b| b == SPACE), kind)
 }

@@ -1,148 +1,106 @@
--- What the functions that write a line go by: the texts of values and pairs from the tables, and the pairs of a form one after another.
-use Prim.Native.Nat.{ℕ, suc, ◌+◌, ◌-◌, ◌<◌, ◌≤◌}
-use Prim.Native.String.{String}
-use mathlib.Core.Bool.{true, false}
-use mathlib.Core.List.{List, [], ◌∷◌, ◌++◌, map, append-nil}
-use mathlib.Core.Path.{◌≡◌, refl, sym, ap, subst, ◌∙◌}
+-- How the parts of a line follow one another.
+use Prim.Native.Nat.{ℕ, ◌≤◌}
+use mathlib.Core.Bool.{true, false, true≢false}
+use mathlib.Core.List.{List, [], ◌∷◌, ◌++◌, map}
+use mathlib.Core.Logic.{◌⊎◌, inl, inr}
+use mathlib.Core.Path.{◌≡◌, refl, sym, ◌∙◌}
 use native.Mathlib.Omega.{arith}
-use native.Mathlib.Numerals.{add-one}
-use borrow.Author.Tests.{ltb-true, ltb-false, lt-ltb, le-ltb, not-true, not-false}
-use lib.Dec.{T, eqb, ltb}
-use lib.ListN.{length, get_or, take, drop, length-take, get_or-append, get_or-eq_default}
-use lib.Seq.{drop-cons, get_or-take, get_or-drop}
-use Rattle.laws.proofs.Tests.{by_test}
+use borrow.Author.Tests.{not-true, not-false}
+use lib.Dec.{eqb}
+use lib.ListN.{length, get_or, get_or-eq_default, take, drop, length-drop}
+use lib.Seq.{take_all}
+use Rattle.std.proofs.Common.{Ok}
 use Rattle.text.specs.Bytes.{ascii, space, equals_sign, joined, join}
 use Rattle.text.specs.Number.{decimal_of}
-use Rattle.text.specs.Put.{last_place, Put}
-use Rattle.text.proofs.Puts.{put_append, put_length, SoFar, so_far_more}
-use Rattle.word.specs.Profile.{LP5523}
-use Rattle.grammar.specs.declared.Value.TheVariants.{Number}
-use Rattle.grammar.specs.Form.{Kind, number, keyword, decision, answers, Pair, write_value, write_pair, continued, write_form}
-use Rattle.grammar.specs.Grammar.{OpLine, op_lines, op_names, op_form, plan_pairs, directions, variables, number16, word_form, write_op}
-use Rattle.grammar.specs.internal.Tables.{op_count, number_kinds, kind_count, decision_kind, pair_count, keys, names, kind_at, pairs, pair_at, stops_at}
-use Rattle.grammar.proofs.Ranges.{kind_number}
-use Rattle.grammar.proofs.Tables.{keyword_table, form_table, keyword_count, keyword_first, kind_is, answers_are, pairs_length, op_form_lem, plan_form_lem, form_is}
-
--- ---- the kinds of values
-
-keyword_kind : (k : ℕ) → number_kinds ≤ k → k < decision_kind → kind_at k ≡ keyword (keyword_table (k - number_kinds))
-keyword_kind k h l = kind_is k (omega arith) ∙ rw (le-ltb k number_kinds h, lt-ltb k decision_kind l)
-
-pub number_text : (k n : ℕ) → k < number_kinds → write_value (kind_at k) n ≡ decimal_of n
-unfolding write_value
-number_text k n h = ap (λ (q : Kind). write_value q n) (kind_number k h)
-
--- a yes or no is one of two keywords, like any other
-keyword_text : (k n : ℕ) → number_kinds ≤ k → k < kind_count → write_value (kind_at k) n ≡ get_or (keyword_table (k - number_kinds)) n []
-unfolding write_value
-keyword_text k n h l =
-    by_test (ltb k decision_kind)
-    (λ e. ap (λ (q : Kind). write_value q n) (keyword_kind k h (ltb-true k decision_kind e)))
-    (λ e.
-    let g = ltb-false k decision_kind e in
-    let f : decision_kind ≡ k = omega arith in
-    subst (λ (j : ℕ). write_value (kind_at j) n ≡ get_or (keyword_table (j - number_kinds)) n []) f
-    (ap (λ (q : Kind). write_value q n) (kind_is decision_kind (omega arith)) ∙ ap (λ (ws : List (List ℕ)). get_or ws n []) answers_are))
-
--- the keyword n of a kind is the name n places after its first, where it has so many
-pub keyword_name : (k n : ℕ) → number_kinds ≤ k → k < kind_count → n < get_or keyword_count (k - number_kinds) 0 → write_value (kind_at k) n ≡ get_or names (get_or keyword_first (k - number_kinds) 0 + n) []
-keyword_name k n h l m =
-    keyword_text k n h l
-    ∙ get_or-take (get_or keyword_count (k - number_kinds) 0) (drop (get_or keyword_first (k - number_kinds) 0) names) n [] m
-    ∙ get_or-drop (get_or keyword_first (k - number_kinds) 0) names n []
-
-pub keyword_none : (k n : ℕ) → number_kinds ≤ k → k < kind_count → get_or keyword_count (k - number_kinds) 0 ≤ n → write_value (kind_at k) n ≡ []
-keyword_none k n h l m =
-    keyword_text k n h l ∙ get_or-eq_default (keyword_table (k - number_kinds)) [] (simp length-take (omega arith))
-
--- ---- where a line ends
+use Rattle.text.specs.Put.{last_place}
+use Rattle.text_bytes.specs.declared.writer.Writer.{Writer}
+use Rattle.text_bytes.specs.Writer.{Writes}
+use Rattle.text_bytes.proofs.Writers.{writes_append, writes_length, SoFar, so_far_is, so_far_more}
+use Rattle.grammar.specs.declared.Kind.{Kind}
+use Rattle.grammar.specs.declared.Kind.TheVariants.{Number, Keyword, Decision}
+use Rattle.grammar.specs.declared.Pair.{Pair}
+use Rattle.word.specs.Field.{upto}
+use Rattle.word.specs.Profile.{LP5523, Range}
+use Rattle.grammar.specs.Grammar.{OpLine, op_lines, op_names, op_form, write_op}
+use Rattle.grammar.specs.Form as form
+use Rattle.grammar.specs.Form.{number, write_value, write_pair, continued, write_form}
+use Rattle.grammar.specs.Entries.{kind_of, pair_of, form_of, stops}
 
 -- what is written after a value, by whether it ends the line
-pub keeps_on : (k : Kind) (n : ℕ) (ps : List (List ℕ)) → stops_at k (Number n) ≡ false → continued k n ps ≡ ps
-unfolding stops_at continued
-keeps_on (number rs) n ps e = refl
-keeps_on (keyword ws) n ps e = refl
-keeps_on decision n ps e = rw (not-false (eqb n 0) e)
+pub keeps_on : (k : Kind) (n : ℕ) (ps : List (List ℕ)) → stops k (Ok n) ≡ false → continued (kind_of k) n ps ≡ ps
+unfolding stops continued
+keeps_on (Number rs) n ps e = refl
+keeps_on (Keyword ws) n ps e = refl
+keeps_on Decision n ps e = rw (not-false (eqb n 0) e)
 
-pub goes_no_further : (k : Kind) (n : ℕ) (ps : List (List ℕ)) → stops_at k (Number n) ≡ true → continued k n ps ≡ []
-unfolding stops_at continued
-goes_no_further (number rs) n ps e = absurd (subst T (sym e) tt)
-goes_no_further (keyword ws) n ps e = absurd (subst T (sym e) tt)
-goes_no_further decision n ps e = rw (not-true (eqb n 0) e)
+pub goes_no_further : (k : Kind) (n : ℕ) (ps : List (List ℕ)) → stops k (Ok n) ≡ true → continued (kind_of k) n ps ≡ []
+unfolding stops continued
+goes_no_further (Number rs) n ps e = absurd (true≢false (sym e))
+goes_no_further (Keyword ws) n ps e = absurd (true≢false (sym e))
+goes_no_further Decision n ps e = rw (not-true (eqb n 0) e)
 
--- ---- the pairs of a form
+-- a key, an equals sign and a value, one after another
+pub put_parts : {a b c d : Writer} {s t : List ℕ} → length a.out.now ≤ last_place → Writes a b s → Writes b c (equals_sign ∷ []) → Writes c d t → Writes a d (s ++ (equals_sign ∷ t))
+put_parts room p q o = writes_append room p (writes_append (omega (arith, writes_length p)) q o)
 
--- The pairs from j up to end, with the values from i on.
-abbrev pub left_of : ℕ → ℕ → ℕ → List ℕ → List (List ℕ)
-left_of end j i ns = write_form (take (end - j) (drop j pairs)) (drop i ns)
+-- a turn of the loop that writes the pairs: after the pair p what continues it is left
+pub so_far_pair : {a b c d : Writer} {whole r : List ℕ} (p : Pair) (n : ℕ) (fs : List Pair) (ns : List ℕ) →
+    r ≡ joined space (write_form (form_of (p ∷ fs)) (n ∷ ns)) →
+    SoFar a b whole r →
+    Writes b c (space ∷ []) →
+    Writes c d (write_pair (pair_of p) n) →
+    SoFar a d whole (joined space (continued (kind_of p.kind) n (write_form (form_of fs) ns)))
+unfolding joined write_form
+so_far_pair p n fs ns v s q o =
+    so_far_more (space ∷ write_pair (pair_of p) n) (joined space (continued (kind_of p.kind) n (write_form (form_of fs) ns)))
+    (so_far_is v s)
+    (writes_append (omega (arith, s.room, writes_length s.wrote)) q o)
 
-module _ (end j i : ℕ) (ns : List ℕ) where
-  -- the first of them, whose value is n, and what continues it
-  pub left_step : (n : ℕ) → n ≡ get_or ns i 0 → j < end → end ≤ pair_count → i < length ns →
-      left_of end j i ns ≡ write_pair (pair_at j) n ∷ continued (pair_at j).kind n (left_of end (j + 1) (i + 1) ns)
-  unfolding write_form pair_at
-  left_step n v h l m =
-      let e : end - j ≡ suc (end - suc j) = omega arith in
-      rw (v, add-one j, add-one i, e, drop-cons pairs j (record { key = []; kind = decision }) (omega (arith, pairs_length)), drop-cons ns i 0 m)
+no_values : (fs : List Pair) → write_form (form_of fs) [] ≡ []
+unfolding write_form
+no_values [] = refl
+no_values (f ∷ fs) = refl
 
-  pub left_none : end ≤ j → left_of end j i ns ≡ []
-  unfolding write_form
-  left_none h =
-      let e : end - j ≡ 0 = omega arith in
-      rw e
+-- where no pair or no value is left
+pub left_none : (fs : List Pair) (ns : List ℕ) → (fs ≡ []) ⊎ (ns ≡ []) → joined space (write_form (form_of fs) ns) ≡ []
+unfolding joined write_form
+left_none fs ns (inl e) = rw e
+left_none fs ns (inr e) = rw (e, no_values fs)
 
 -- ---- whole lines
 
--- the names of operations are the first of all names
-op_name : (o : ℕ) → o < op_count → get_or (op_names LP5523) o [] ≡ get_or names o []
-unfolding names op_names
-op_name o h = sym (get_or-append (op_names LP5523) (directions ++ (variables ++ (answers ++ keys))) [] o h)
+-- the values after the first
+pub later_values : (values : List ℕ) → length values ≡ 7 → take 6 (drop 1 values) ≡ drop 1 values
+later_values values h = take_all 6 (drop 1 values) (simp length-drop (omega arith))
 
-pub op_line : (o : ℕ) (ns : List ℕ) → o < op_count →
-    join space (write_op LP5523 (o ∷ ns)) ≡ (ascii "op=" ++ get_or names o []) ++ joined space (write_form (form_table o) ns)
+-- a line that begins with a number
+pub numbered_text : (k : List ℕ) (fs : List form.Pair) (values : List ℕ) → length values ≡ 7
+    → join space (write_form (record { key = k; kind = number (upto 65535) } ∷ fs) values)
+    ≡ (k ++ (equals_sign ∷ decimal_of (get_or values 0 0))) ++ joined space (write_form fs (drop 1 values))
+unfolding write_form write_pair write_value continued join
+numbered_text k fs [] h = absurd (omega arith)
+numbered_text k fs (n ∷ ns) h = refl
+
+-- its number is written alike, whatever may be read there
+pub any_number : (k : List ℕ) (rs : List Range) (fs : List form.Pair) (values : List ℕ)
+    → write_form (record { key = k; kind = number (upto 65535) } ∷ fs) values ≡ write_form (record { key = k; kind = number rs } ∷ fs) values
+unfolding write_form write_pair write_value continued
+any_number k rs fs [] = refl
+any_number k rs fs (n ∷ ns) = refl
+
+-- the line of an operation
+pub op_text : (values : List ℕ) → length values ≡ 7
+    → join space (write_op LP5523 values)
+    ≡ (ascii "op=" ++ get_or (op_names LP5523) (get_or values 0 0) []) ++ joined space (write_form (op_form LP5523 (get_or values 0 0)) (drop 1 values))
 unfolding write_op join
-op_line o ns h = rw (op_name o h, op_form_lem o h, form_is o (omega arith))
+op_text [] h = absurd (omega arith)
+op_text (o ∷ ns) h = refl
 
 -- an operation that isn't in the table has neither name nor pairs
-pub no_line : (o : ℕ) (ns : List ℕ) → op_count ≤ o → join space (write_op LP5523 (o ∷ ns)) ≡ ascii "op="
-unfolding write_op write_form join joined op_names op_form
-no_line o ns h =
-    let name : get_or (op_names LP5523) o [] ≡ [] = get_or-eq_default (op_names LP5523) [] h in
-    let form : op_form LP5523 o ≡ [] = get_or-eq_default (map (λ (l : OpLine). l.form) (op_lines LP5523)) [] h in
-    rw (name, form)
-
--- a plan line: the engine's number, then the other pairs
-pub plan_line : (p : List ℕ) (ns : List ℕ) → join space (p ∷ write_form (plan_pairs LP5523) ns) ≡ p ++ joined space (write_form (form_table op_count) ns)
-unfolding join
-plan_line p ns = ap (λ (fs : List Pair). p ++ joined space (write_form fs ns)) (plan_form_lem ∙ form_is op_count (omega arith))
-
--- a line of one pair is that pair
-pub single_line : (k : String) (n : ℕ) (ns : List ℕ) → join space (write_form (word_form k) (n ∷ ns)) ≡ write_pair (number16 (ascii k)) n
-unfolding write_form continued word_form join joined
-single_line k n ns = append-nil (write_pair (number16 (ascii k)) n)
-
--- ---- writing
-
--- what is left to write may be put in other words
-pub so_far_is : {a b whole r t : List ℕ} {at n : ℕ} → r ≡ t → SoFar a b whole r at n → SoFar a b whole t at n
-so_far_is {a} {b} {whole} {r} {t} {at} {n} e s = subst (λ (x : List ℕ). SoFar a b whole x at n) e s
-
--- a key, an equals sign and a value, one after another
-pub put_parts : {a b c d s t : List ℕ} {at m n r : ℕ} → length a ≤ last_place → Put a b s at m → Put b c (equals_sign ∷ []) m n → Put c d t n r → Put a d (s ++ (equals_sign ∷ t)) at r
-put_parts room p q o = put_append room p (put_append (omega (arith, put_length p)) q o)
-
--- a turn of the loop that writes the pairs: after the pair j what continues it is left
-pub so_far_pair : {a b d e whole : List ℕ} {at next m k : ℕ} (end j i : ℕ) (ns : List ℕ) (n : ℕ) →
-    n ≡ get_or ns i 0 →
-    j < end →
-    end ≤ pair_count →
-    i < length ns →
-    SoFar a b whole (joined space (left_of end j i ns)) at next →
-    Put b d (space ∷ []) next m →
-    Put d e (write_pair (pair_at j) n) m k →
-    SoFar a e whole (joined space (continued (pair_at j).kind n (left_of end (j + 1) (i + 1) ns))) at k
-unfolding joined
-so_far_pair end j i ns n v h l w s p q =
-    so_far_more (space ∷ write_pair (pair_at j) n) (joined space (continued (pair_at j).kind n (left_of end (j + 1) (i + 1) ns)))
-    (so_far_is (ap (joined space) (left_step end j i ns n v h l w)) s)
-    (put_append (omega (arith, s.room, put_length s.put)) p q)
+pub no_text : (values : List ℕ) → length values ≡ 7 → 31 ≤ get_or values 0 0 → join space (write_op LP5523 values) ≡ ascii "op="
+unfolding write_form joined op_names op_form
+no_text values h l =
+    let o = get_or values 0 0 in
+    let name : get_or (op_names LP5523) o [] ≡ [] = get_or-eq_default (op_names LP5523) [] l in
+    let form : op_form LP5523 o ≡ [] = get_or-eq_default (map (λ (l : OpLine). l.form) (op_lines LP5523)) [] l in
+    op_text values h ∙ rw (name, form)

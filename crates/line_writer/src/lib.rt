@@ -1,9 +1,7 @@
 // A line of a sheet, written by the grammar's tables. Every place and all values get an answer.
 #![tactic(auto)]
 
-mod kinds;
-mod names;
-mod sequence;
+mod pairs;
 mod writing;
 
 pub use writing::put_line;

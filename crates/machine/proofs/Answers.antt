@@ -8,6 +8,7 @@ use native.Mathlib.Omega.{arith}
 use lib.Dec.{leb, ltb, eqb}
 use lib.ListN.{length, get_or}
 use borrow.Author.Tests.{leb-true, leb-false, ltb-true, ltb-false, eqb-true, eqb-false, not-false}
+use Rattle.std.specs.Prelude.{Ok, Err}
 use Rattle.laws.proofs.Tests.{by_test, by_cond, and_left, and_right}
 use Rattle.word.specs.Profile.{Profile, words_of, pages_of}
 use Rattle.machine.specs.declared.Mode.{Mode}
@@ -16,45 +17,25 @@ use Rattle.machine.specs.declared.Progress.{Progress}
 use Rattle.machine.specs.declared.Progress.TheVariants.{BetweenWords, Waiting, Ramping, Triggering}
 use Rattle.machine.specs.declared.Engine.{Engine}
 use Rattle.machine.specs.declared.Chip.{Chip}
-use Rattle.machine.specs.declared.RunResult.{RunResult}
-use Rattle.machine.specs.declared.WriteResult.{WriteResult}
-use Rattle.machine.specs.declared.Outcome.{Outcome}
-use Rattle.machine.specs.declared.Outcome.TheVariants.{Success, EmptyBurst, UnlistedAddress, OutsideRegister, LoadRefused, StartInUse, MemoryInUse, OutputHeld, TooManyBeats}
+use Rattle.machine.specs.declared.CallError.TheVariants.{EmptyBurst, UnlistedAddress, OutsideRegister, LoadRefused, StartInUse, MemoryInUse, OutputHeld, TooManyBeats}
 use Rattle.machine.specs.declared.Register.{Register}
 use Rattle.machine.specs.declared.Register.TheVariants.{Control, Modes, OutputLevel, VariableD, Start, Page, Memory, Unlisted}
 use Rattle.machine.specs.Parts.{bit, zero_engine, engine_at}
 use Rattle.machine.specs.Outputs.{holder}
 use Rattle.machine.specs.Turn.{mid_word}
 use Rattle.machine.specs.Tick.{some, is_load, loads}
-use Rattle.machine.specs.Outcome.{number_of}
-use Rattle.machine.specs.Run.{most_beats, run_of}
+use Rattle.machine.specs.Outcome.{Outcome, number_of}
+use Rattle.machine.specs.Run.{Ran, most_beats, run_of}
 use Rattle.machine.specs.Registers.{register_at, pair_of, mode_of}
 use Rattle.machine.specs.Judged.{in_use, load_refused, memory_in_use, judged}
 use Rattle.machine.specs.Stored.{stored}
-use Rattle.machine.specs.Burst.{visited, is_unlisted, some_unlisted, succeeds, bytes_written, undone, burst_of}
+use Rattle.machine.specs.Burst.{Written, visited, is_unlisted, some_unlisted, succeeds, bytes_written, undone, burst_of}
 use Rattle.machine.specs.Refusals.{OutsideField, LoadAsked, StartOfUsed, NoneLoading, SomeMidWord, MemoryUsed, HeldOutput, ByteCondition, NotRefused, ByteRefused, register_of, chip_at_byte, SomeUnlisted, AllListed, FirstRefused, NoneRefused, BurstCondition, RunCondition}
 use Rattle.machine.specs.Theorems.{BurstAnswers, RunAnswers}
 use Rattle.machine.proofs.Common.{or_false_left, or_false_right}
 use Rattle.machine.proofs.Refusals.{refused_run}
+use Rattle.machine.proofs.Reports.{one_number_each}
 use Rattle.machine.proofs.Run.{run_is_beats}
-
--- an answer is known by its number
-abbrev answer_at : ℕ → Outcome
-answer_at n = get_or (Success ∷ EmptyBurst ∷ UnlistedAddress ∷ OutsideRegister ∷ LoadRefused ∷ StartInUse ∷ MemoryInUse ∷ OutputHeld ∷ TooManyBeats ∷ []) n Success
-
-answer_at_lem : (o : Outcome) → answer_at (number_of o) ≡ o
-answer_at_lem Success = refl
-answer_at_lem EmptyBurst = refl
-answer_at_lem UnlistedAddress = refl
-answer_at_lem OutsideRegister = refl
-answer_at_lem LoadRefused = refl
-answer_at_lem StartInUse = refl
-answer_at_lem MemoryInUse = refl
-answer_at_lem OutputHeld = refl
-answer_at_lem TooManyBeats = refl
-
-same_number : (o q : Outcome) → number_of o ≡ number_of q → o ≡ q
-same_number o q h = sym (answer_at_lem o) ∙ ap answer_at h ∙ answer_at_lem q
 
 -- registers of different kinds differ
 abbrev kind : Register → ℕ
@@ -187,35 +168,35 @@ memory_free P m h (inr w) =
 
 -- A byte: what it answers, and that it answers one thing.
 data Judges (P : Profile) (r : Register) (v : ℕ) (m : Chip) : Outcome → Type 0 where
-  none : NotRefused P r v m → Judges P r v m Success
+  none : NotRefused P r v m → Judges P r v m (Ok tt)
   one : {o : Outcome} → ByteRefused P r v m o → Judges P r v m o
 
 module _ (P : Profile) (r : Register) (v : ℕ) (m : Chip) where
   none_of : (OutsideField P r v → ⊥) → (LoadAsked P r v m → ⊥) → (StartOfUsed P r m → ⊥) → (MemoryUsed P r m → ⊥) → (HeldOutput P r m → ⊥) → NotRefused P r v m
-  none_of a b c d e Success h = h
-  none_of a b c d e EmptyBurst h = h
-  none_of a b c d e UnlistedAddress h = h
-  none_of a b c d e OutsideRegister h = a h
-  none_of a b c d e LoadRefused h = b h
-  none_of a b c d e StartInUse h = c h
-  none_of a b c d e MemoryInUse h = d h
-  none_of a b c d e OutputHeld h = e h
-  none_of a b c d e TooManyBeats h = h
+  none_of a b c d e (Ok _) h = h
+  none_of a b c d e (Err EmptyBurst) h = h
+  none_of a b c d e (Err UnlistedAddress) h = h
+  none_of a b c d e (Err OutsideRegister) h = a h
+  none_of a b c d e (Err LoadRefused) h = b h
+  none_of a b c d e (Err StartInUse) h = c h
+  none_of a b c d e (Err MemoryInUse) h = d h
+  none_of a b c d e (Err OutputHeld) h = e h
+  none_of a b c d e (Err TooManyBeats) h = h
 
   lower_of : (o : Outcome) → (3 < number_of o → OutsideField P r v → ⊥) → (4 < number_of o → LoadAsked P r v m → ⊥) → (5 < number_of o → StartOfUsed P r m → ⊥) → (6 < number_of o → MemoryUsed P r m → ⊥) → (7 < number_of o → HeldOutput P r m → ⊥) →
       (q : Outcome) → number_of q < number_of o → ByteCondition P r v m q → ⊥
-  lower_of o a b c d e Success n h = h
-  lower_of o a b c d e EmptyBurst n h = h
-  lower_of o a b c d e UnlistedAddress n h = h
-  lower_of o a b c d e OutsideRegister n h = a n h
-  lower_of o a b c d e LoadRefused n h = b n h
-  lower_of o a b c d e StartInUse n h = c n h
-  lower_of o a b c d e MemoryInUse n h = d n h
-  lower_of o a b c d e OutputHeld n h = e n h
-  lower_of o a b c d e TooManyBeats n h = h
+  lower_of o a b c d e (Ok _) n h = h
+  lower_of o a b c d e (Err EmptyBurst) n h = h
+  lower_of o a b c d e (Err UnlistedAddress) n h = h
+  lower_of o a b c d e (Err OutsideRegister) n h = a n h
+  lower_of o a b c d e (Err LoadRefused) n h = b n h
+  lower_of o a b c d e (Err StartInUse) n h = c n h
+  lower_of o a b c d e (Err MemoryInUse) n h = d n h
+  lower_of o a b c d e (Err OutputHeld) n h = e n h
+  lower_of o a b c d e (Err TooManyBeats) n h = h
 
-  refused_3 : OutsideField P r v → Judges P r v m OutsideRegister
-  refused_3 h = one (record { condition = h; lowest = lower_of OutsideRegister (λ n. absurd (omega arith)) (λ n. absurd (omega arith)) (λ n. absurd (omega arith)) (λ n. absurd (omega arith)) (λ n. absurd (omega arith)) })
+  refused_3 : OutsideField P r v → Judges P r v m (Err OutsideRegister)
+  refused_3 h = one (record { condition = h; lowest = lower_of (Err OutsideRegister) (λ n. absurd (omega arith)) (λ n. absurd (omega arith)) (λ n. absurd (omega arith)) (λ n. absurd (omega arith)) (λ n. absurd (omega arith)) })
 
   -- at a register of another kind
   no_modes : (kind r ≡ 1 → ⊥) → LoadAsked P r v m → ⊥
@@ -253,7 +234,7 @@ judges P Modes v m l =
     (λ h. by_cond (Judges P Modes v m) (load_refused v 0 m.engines)
     (λ k. one (record {
       condition = asked_load P v m k;
-      lowest = lower_of P Modes v m LoadRefused (λ n c. omega (arith, leb-false 64 v h)) (λ n. absurd (omega arith)) (λ n. absurd (omega arith)) (λ n. absurd (omega arith)) (λ n. absurd (omega arith));
+      lowest = lower_of P Modes v m (Err LoadRefused) (λ n c. omega (arith, leb-false 64 v h)) (λ n. absurd (omega arith)) (λ n. absurd (omega arith)) (λ n. absurd (omega arith)) (λ n. absurd (omega arith));
     }))
     (λ k. none (none_of P Modes v m (λ c. omega (arith, leb-false 64 v h)) (no_load P v m k) (no_start P Modes v m (λ n. omega arith)) (no_memory P Modes v m (λ n. omega arith)) (no_output P Modes v m (λ n. omega arith)))))
 judges P (OutputLevel x) v m l =
@@ -261,7 +242,7 @@ judges P (OutputLevel x) v m l =
     (λ h. none (none_of P (OutputLevel x) v m (λ c. c) (no_modes P (OutputLevel x) v m (λ n. omega arith)) (no_start P (OutputLevel x) v m (λ n. omega arith)) (no_memory P (OutputLevel x) v m (λ n. omega arith)) (output_free P x m (eqb-true _ _ h))))
     (λ h. one (record {
       condition = output_held P x m (eqb-false _ _ h);
-      lowest = lower_of P (OutputLevel x) v m OutputHeld (λ n c. c) (λ n. no_modes P (OutputLevel x) v m (λ n. omega arith)) (λ n. no_start P (OutputLevel x) v m (λ n. omega arith)) (λ n. no_memory P (OutputLevel x) v m (λ n. omega arith)) (λ n. absurd (omega arith));
+      lowest = lower_of P (OutputLevel x) v m (Err OutputHeld) (λ n c. c) (λ n. no_modes P (OutputLevel x) v m (λ n. omega arith)) (λ n. no_start P (OutputLevel x) v m (λ n. omega arith)) (λ n. no_memory P (OutputLevel x) v m (λ n. omega arith)) (λ n. absurd (omega arith));
     }))
 judges P VariableD v m l =
     none (none_of P VariableD v m (λ c. c) (no_modes P VariableD v m (λ n. omega arith)) (no_start P VariableD v m (λ n. omega arith)) (no_memory P VariableD v m (λ n. omega arith)) (no_output P VariableD v m (λ n. omega arith)))
@@ -270,7 +251,7 @@ judges P (Start i) v m l =
     (λ h. by_cond (Judges P (Start i) v m) (in_use (engine_at P m i).mode)
     (λ k. one (record {
       condition = record { engine = i; written = refl; used = run_or_halt (engine_at P m i).mode k };
-      lowest = lower_of P (Start i) v m StartInUse (λ n c. omega (arith, leb-false (words_of P) v h)) (λ n. no_modes P (Start i) v m (λ n. omega arith)) (λ n. absurd (omega arith)) (λ n. absurd (omega arith)) (λ n. absurd (omega arith));
+      lowest = lower_of P (Start i) v m (Err StartInUse) (λ n c. omega (arith, leb-false (words_of P) v h)) (λ n. no_modes P (Start i) v m (λ n. omega arith)) (λ n. absurd (omega arith)) (λ n. absurd (omega arith)) (λ n. absurd (omega arith));
     }))
     (λ k. none (none_of P (Start i) v m (λ c. omega (arith, leb-false (words_of P) v h)) (no_modes P (Start i) v m (λ n. omega arith)) (start_free P i m k) (no_memory P (Start i) v m (λ n. omega arith)) (no_output P (Start i) v m (λ n. omega arith)))))
 judges P Page v m l =
@@ -280,7 +261,7 @@ judges P (Memory x) v m l =
     by_cond (Judges P (Memory x) v m) (memory_in_use m.engines)
     (λ h. one (record {
       condition = record { byte = x; written = refl; used = memory_used P m h };
-      lowest = lower_of P (Memory x) v m MemoryInUse (λ n c. c) (λ n. no_modes P (Memory x) v m (λ n. omega arith)) (λ n. no_start P (Memory x) v m (λ n. omega arith)) (λ n. absurd (omega arith)) (λ n. absurd (omega arith));
+      lowest = lower_of P (Memory x) v m (Err MemoryInUse) (λ n c. c) (λ n. no_modes P (Memory x) v m (λ n. omega arith)) (λ n. no_start P (Memory x) v m (λ n. omega arith)) (λ n. absurd (omega arith)) (λ n. absurd (omega arith));
     }))
     (λ h. none (none_of P (Memory x) v m (λ c. c) (no_modes P (Memory x) v m (λ n. omega arith)) (no_start P (Memory x) v m (λ n. omega arith)) (λ c. memory_free P m h c.used) (no_output P (Memory x) v m (λ n. omega arith))))
 judges P Unlisted v m l = absurd (l refl)
@@ -291,18 +272,19 @@ one_number o q f g =
     (λ h. absurd (f (ltb-true (number_of o) (number_of q) h)))
     (λ h. by_test (ltb (number_of q) (number_of o))
     (λ k. absurd (g (ltb-true (number_of q) (number_of o) k)))
-    (λ k. same_number o q (omega (arith, ltb-false (number_of o) (number_of q) h, ltb-false (number_of q) (number_of o) k))))
+    (λ k. one_number_each o q (omega (arith, ltb-false (number_of o) (number_of q) h, ltb-false (number_of q) (number_of o) k))))
 
 -- a refused byte has one number
 one_refusal : (P : Profile) (r : Register) (v : ℕ) (m : Chip) (o q : Outcome) → ByteRefused P r v m o → ByteRefused P r v m q → o ≡ q
 one_refusal P r v m o q x y = one_number o q (λ h. y.lowest o h x.condition) (λ h. x.lowest q h y.condition)
 
 accepted_byte : (P : Profile) (r : Register) (v : ℕ) (m : Chip) (o : Outcome) → Judges P r v m o → succeeds o ≡ true → NotRefused P r v m
-accepted_byte P r v m Success (none n) h = n
-accepted_byte P r v m o (one x) h = absurd (subst (ByteCondition P r v m) (same_number o Success (eqb-true _ _ h)) x.condition)
+accepted_byte P r v m (Ok _) (none n) h = n
+accepted_byte P r v m (Ok _) (one x) h = absurd x.condition
+accepted_byte P r v m (Err e) (one x) h = absurd (false≢true h)
 
 refused_byte : (P : Profile) (r : Register) (v : ℕ) (m : Chip) (o : Outcome) → Judges P r v m o → succeeds o ≡ false → ByteRefused P r v m o
-refused_byte P r v m Success (none n) h = absurd (true≢false h)
+refused_byte P r v m (Ok _) (none n) h = absurd (true≢false h)
 refused_byte P r v m o (one x) h = x
 
 -- Bursts. What is said of byte k of the rest is said of byte k + 1 of the whole.
@@ -335,11 +317,11 @@ module _ (P : Profile) (a v : ℕ) (vs : List ℕ) (m : Chip) where
 
 -- what the bytes answer
 data Answers (P : Profile) (a : ℕ) (vs : List ℕ) (m : Chip) : Outcome → Type 0 where
-  all : NoneRefused P a vs m → Answers P a vs m Success
+  all : NoneRefused P a vs m → Answers P a vs m (Ok tt)
   first : {o : Outcome} → FirstRefused P a vs m o → Answers P a vs m o
 
 after_accepted : (P : Profile) (a v : ℕ) (vs : List ℕ) (m : Chip) (o : Outcome) → NotRefused P (register_at P a) v m → Answers P (a + 1) vs (stored P (register_at P a) v m) o → Answers P a (v ∷ vs) m o
-after_accepted P a v vs m Success f (all g) = all (accepted_first P a v vs m f (length vs) g)
+after_accepted P a v vs m (Ok _) f (all g) = all (accepted_first P a v vs m f (length vs) g)
 after_accepted P a v vs m o f (first x) =
     first (record {
       place = suc x.place;
@@ -354,7 +336,7 @@ bytes_answer P a [] m l = all (λ k h. absurd (omega arith))
 bytes_answer P a (v ∷ vs) m l =
     let r = register_at P a in
     let j : Judges P r v m (judged P r v m) = judges P r v m (λ e. l 0 (omega arith) (first_register P a v vs m ∙ e)) in
-    by_cond (λ (w : WriteResult). Answers P a (v ∷ vs) m w.outcome) (succeeds (judged P r v m))
+    by_cond (λ (w : Written). Answers P a (v ∷ vs) m w.outcome) (succeeds (judged P r v m))
     (λ h. after_accepted P a v vs m _ (accepted_byte P r v m _ j h) (bytes_answer P (a + 1) vs (stored P r v m) (λ k i e. l (suc k) (omega arith) (sym (next_register P a v vs m k) ∙ e))))
     (λ h. first (record {
       place = 0;
@@ -392,12 +374,12 @@ all_listed P a (v ∷ vs) m h (suc k) i e =
 
 -- what a burst answers
 data BurstGives (P : Profile) (a : ℕ) (vs : List ℕ) (m : Chip) : Outcome → Type 0 where
-  empty : vs ≡ [] → BurstGives P a vs m EmptyBurst
-  unlisted : SomeUnlisted P a vs → BurstGives P a vs m UnlistedAddress
+  empty : vs ≡ [] → BurstGives P a vs m (Err EmptyBurst)
+  unlisted : SomeUnlisted P a vs → BurstGives P a vs m (Err UnlistedAddress)
   bytes : {o : Outcome} → (vs ≡ [] → ⊥) → AllListed P a vs → Answers P a vs m o → BurstGives P a vs m o
 
-undone_outcome : (m : Chip) (w : WriteResult) → (undone m w).outcome ≡ w.outcome
-undone_outcome m w = by_cond (λ (u : WriteResult). u.outcome ≡ w.outcome) (succeeds w.outcome) (λ h. refl) (λ h. refl)
+undone_outcome : (m : Chip) (w : Written) → (undone m w).outcome ≡ w.outcome
+undone_outcome m w = by_cond (λ (u : Written). u.outcome ≡ w.outcome) (succeeds w.outcome) (λ h. refl) (λ h. refl)
 
 cons_nonempty : (v : ℕ) (vs : List ℕ) → v ∷ vs ≡ [] → ⊥
 cons_nonempty v vs e = let z : suc (length vs) ≡ 0 = ap length e in omega arith
@@ -406,7 +388,7 @@ burst_gives : (P : Profile) (a : ℕ) (vs : List ℕ) (m : Chip) → BurstGives 
 unfolding burst_of
 burst_gives P a [] m = empty refl
 burst_gives P a (v ∷ vs) m =
-    by_cond (λ (w : WriteResult). BurstGives P a (v ∷ vs) m w.outcome) (some_unlisted P (visited a (v ∷ vs)))
+    by_cond (λ (w : Written). BurstGives P a (v ∷ vs) m w.outcome) (some_unlisted P (visited a (v ∷ vs)))
     (λ h. unlisted (some_unlisted_lem P a (v ∷ vs) m h))
     (λ h. subst (BurstGives P a (v ∷ vs) m) (sym (undone_outcome m (bytes_written P (visited a (v ∷ vs)) m)))
     (bytes (cons_nonempty v vs) (all_listed P a (v ∷ vs) m h) (bytes_answer P a (v ∷ vs) m (all_listed P a (v ∷ vs) m h))))
@@ -426,61 +408,61 @@ module _ (P : Profile) (a : ℕ) (vs : List ℕ) (m : Chip) where
       (subst (λ (i : ℕ). ByteRefused P (register_of P a i) (get_or vs i 0) (chip_at_byte P a vs m i) o) e x.refused) y.refused))
 
   one_answer : (o q : Outcome) → Answers P a vs m o → Answers P a vs m q → o ≡ q
-  one_answer Success Success (all f) (all g) = refl
-  one_answer Success q (all f) (first y) = absurd (f y.place y.within q y.refused.condition)
-  one_answer o Success (first x) (all g) = absurd (g x.place x.within o x.refused.condition)
+  one_answer (Ok _) (Ok _) (all f) (all g) = refl
+  one_answer (Ok _) q (all f) (first y) = absurd (f y.place y.within q y.refused.condition)
+  one_answer o (Ok _) (first x) (all g) = absurd (g x.place x.within o x.refused.condition)
   one_answer o q (first x) (first y) = one_first o q x y
 
   not_within : (k : ℕ) → k < length vs → vs ≡ [] → ⊥
   not_within k h e = let z : length vs ≡ 0 = ap length e in omega arith
 
   one_burst : (o q : Outcome) → BurstGives P a vs m o → BurstGives P a vs m q → o ≡ q
-  one_burst EmptyBurst EmptyBurst (empty e) (empty f) = refl
-  one_burst EmptyBurst UnlistedAddress (empty e) (unlisted s) = absurd (not_within s.place s.within e)
-  one_burst EmptyBurst q (empty e) (bytes n l x) = absurd (n e)
-  one_burst UnlistedAddress EmptyBurst (unlisted s) (empty e) = absurd (not_within s.place s.within e)
-  one_burst UnlistedAddress UnlistedAddress (unlisted s) (unlisted t) = refl
-  one_burst UnlistedAddress q (unlisted s) (bytes n l x) = absurd (l s.place s.within s.unlisted)
-  one_burst o EmptyBurst (bytes n l x) (empty e) = absurd (n e)
-  one_burst o UnlistedAddress (bytes n l x) (unlisted s) = absurd (l s.place s.within s.unlisted)
+  one_burst (Err EmptyBurst) (Err EmptyBurst) (empty e) (empty f) = refl
+  one_burst (Err EmptyBurst) (Err UnlistedAddress) (empty e) (unlisted s) = absurd (not_within s.place s.within e)
+  one_burst (Err EmptyBurst) q (empty e) (bytes n l x) = absurd (n e)
+  one_burst (Err UnlistedAddress) (Err EmptyBurst) (unlisted s) (empty e) = absurd (not_within s.place s.within e)
+  one_burst (Err UnlistedAddress) (Err UnlistedAddress) (unlisted s) (unlisted t) = refl
+  one_burst (Err UnlistedAddress) q (unlisted s) (bytes n l x) = absurd (l s.place s.within s.unlisted)
+  one_burst o (Err EmptyBurst) (bytes n l x) (empty e) = absurd (n e)
+  one_burst o (Err UnlistedAddress) (bytes n l x) (unlisted s) = absurd (l s.place s.within s.unlisted)
   one_burst o q (bytes n l x) (bytes n' l' y) = one_answer o q x y
 
   -- as the conditions say it
   of_first : (o : Outcome) → AllListed P a vs → FirstRefused P a vs m o → BurstCondition P a vs m o
-  of_first Success l x = absurd x.refused.condition
-  of_first EmptyBurst l x = absurd x.refused.condition
-  of_first UnlistedAddress l x = absurd x.refused.condition
-  of_first OutsideRegister l x = (l, x)
-  of_first LoadRefused l x = (l, x)
-  of_first StartInUse l x = (l, x)
-  of_first MemoryInUse l x = (l, x)
-  of_first OutputHeld l x = (l, x)
-  of_first TooManyBeats l x = absurd x.refused.condition
+  of_first (Ok _) l x = absurd x.refused.condition
+  of_first (Err EmptyBurst) l x = absurd x.refused.condition
+  of_first (Err UnlistedAddress) l x = absurd x.refused.condition
+  of_first (Err OutsideRegister) l x = (l, x)
+  of_first (Err LoadRefused) l x = (l, x)
+  of_first (Err StartInUse) l x = (l, x)
+  of_first (Err MemoryInUse) l x = (l, x)
+  of_first (Err OutputHeld) l x = (l, x)
+  of_first (Err TooManyBeats) l x = absurd x.refused.condition
 
   condition_of : (o : Outcome) → BurstGives P a vs m o → BurstCondition P a vs m o
-  condition_of EmptyBurst (empty e) = e
-  condition_of UnlistedAddress (unlisted s) = s
-  condition_of Success (bytes n l (all f)) = (n, l, f)
+  condition_of (Err EmptyBurst) (empty e) = e
+  condition_of (Err UnlistedAddress) (unlisted s) = s
+  condition_of (Ok _) (bytes n l (all f)) = (n, l, f)
   condition_of o (bytes n l (first x)) = of_first o l x
 
   by_first : (o : Outcome) → AllListed P a vs → FirstRefused P a vs m o → BurstGives P a vs m o
   by_first o l x = bytes (not_within x.place x.within) l (first x)
 
   gives_of : (o : Outcome) → BurstCondition P a vs m o → BurstGives P a vs m o
-  gives_of Success h = bytes h.0 h.1 (all h.2)
-  gives_of EmptyBurst h = empty h
-  gives_of UnlistedAddress h = unlisted h
-  gives_of OutsideRegister h = by_first OutsideRegister h.0 h.1
-  gives_of LoadRefused h = by_first LoadRefused h.0 h.1
-  gives_of StartInUse h = by_first StartInUse h.0 h.1
-  gives_of MemoryInUse h = by_first MemoryInUse h.0 h.1
-  gives_of OutputHeld h = by_first OutputHeld h.0 h.1
-  gives_of TooManyBeats h = absurd h
+  gives_of (Ok _) h = bytes h.0 h.1 (all h.2)
+  gives_of (Err EmptyBurst) h = empty h
+  gives_of (Err UnlistedAddress) h = unlisted h
+  gives_of (Err OutsideRegister) h = by_first (Err OutsideRegister) h.0 h.1
+  gives_of (Err LoadRefused) h = by_first (Err LoadRefused) h.0 h.1
+  gives_of (Err StartInUse) h = by_first (Err StartInUse) h.0 h.1
+  gives_of (Err MemoryInUse) h = by_first (Err MemoryInUse) h.0 h.1
+  gives_of (Err OutputHeld) h = by_first (Err OutputHeld) h.0 h.1
+  gives_of (Err TooManyBeats) h = absurd h
 
 pub burst_answers : BurstAnswers
 burst_answers P a vs m o =
     let g : Outcome = (burst_of P a vs m).outcome in (
-      λ h. subst (BurstCondition P a vs m) (same_number g o h) (condition_of P a vs m g (burst_gives P a vs m)),
+      λ h. subst (BurstCondition P a vs m) (one_number_each g o h) (condition_of P a vs m g (burst_gives P a vs m)),
       λ h. ap number_of (one_burst P a vs m g o (burst_gives P a vs m) (gives_of P a vs m o h)),
     )
 
@@ -488,22 +470,22 @@ burst_answers P a vs m o =
 run_condition : (P : Profile) (n : ℕ) (m : Chip) → RunCondition n (run_of P n m).outcome
 run_condition P n m =
     by_test (ltb most_beats n)
-    (λ h. subst (λ (r : RunResult). RunCondition n r.outcome) (sym (refused_run P n m (ltb-true most_beats n h))) (ltb-true most_beats n h))
+    (λ h. subst (λ (r : Ran). RunCondition n r.outcome) (sym (refused_run P n m (ltb-true most_beats n h))) (ltb-true most_beats n h))
     (λ h. subst (RunCondition n) (sym (run_is_beats P n m (ltb-false most_beats n h)).outcome) (ltb-false most_beats n h))
 
 run_outcome : (P : Profile) (n : ℕ) (m : Chip) (o : Outcome) → RunCondition n o → (run_of P n m).outcome ≡ o
-run_outcome P n m Success h = (run_is_beats P n m h).outcome
-run_outcome P n m EmptyBurst h = absurd h
-run_outcome P n m UnlistedAddress h = absurd h
-run_outcome P n m OutsideRegister h = absurd h
-run_outcome P n m LoadRefused h = absurd h
-run_outcome P n m StartInUse h = absurd h
-run_outcome P n m MemoryInUse h = absurd h
-run_outcome P n m OutputHeld h = absurd h
-run_outcome P n m TooManyBeats h = ap (λ (r : RunResult). r.outcome) (refused_run P n m h)
+run_outcome P n m (Ok _) h = (run_is_beats P n m h).outcome
+run_outcome P n m (Err EmptyBurst) h = absurd h
+run_outcome P n m (Err UnlistedAddress) h = absurd h
+run_outcome P n m (Err OutsideRegister) h = absurd h
+run_outcome P n m (Err LoadRefused) h = absurd h
+run_outcome P n m (Err StartInUse) h = absurd h
+run_outcome P n m (Err MemoryInUse) h = absurd h
+run_outcome P n m (Err OutputHeld) h = absurd h
+run_outcome P n m (Err TooManyBeats) h = ap (λ (r : Ran). r.outcome) (refused_run P n m h)
 
 pub run_answers : RunAnswers
 run_answers P n m o = (
-  λ h. subst (RunCondition n) (same_number (run_of P n m).outcome o h) (run_condition P n m),
+  λ h. subst (RunCondition n) (one_number_each (run_of P n m).outcome o h) (run_condition P n m),
   λ h. ap number_of (run_outcome P n m o h),
 )

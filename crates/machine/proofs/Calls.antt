@@ -6,6 +6,7 @@ use mathlib.Core.Path.{◌≡◌}
 use lib.Dec.{leb, ltb}
 use lib.ListN.{get_or, set}
 use borrow.Author.Tests.{leb-false}
+use Rattle.std.specs.Prelude.{Ok, Err}
 use Rattle.laws.proofs.Tests.{by_cond}
 use Rattle.word.specs.Profile.{Profile, words_of, engines_of}
 use Rattle.word.specs.Steps.{address_at}
@@ -13,25 +14,23 @@ use Rattle.machine.specs.declared.Mode.{Mode}
 use Rattle.machine.specs.declared.Exec.{Exec}
 use Rattle.machine.specs.declared.Engine.{Engine}
 use Rattle.machine.specs.declared.Chip.{Chip}
+use Rattle.machine.specs.declared.CallError.TheVariants.{OutsideRegister}
 use Rattle.machine.specs.declared.BeatResult.{BeatResult}
-use Rattle.machine.specs.declared.RunResult.{RunResult}
-use Rattle.machine.specs.declared.Outcome.{Outcome}
-use Rattle.machine.specs.declared.Outcome.TheVariants.{Success, OutsideRegister}
-use Rattle.machine.specs.declared.WriteResult.{WriteResult}
 use Rattle.machine.specs.declared.Register.{Register}
 use Rattle.machine.specs.declared.Register.TheVariants.{Control, Modes, OutputLevel, VariableD, Start, Page, Memory, Unlisted}
 use Rattle.machine.specs.Parts.{bit, each, zero_engine, engine_at, with_exec, with_start, with_pending, with_interrupt}
 use Rattle.machine.specs.Triggers.{receives, pulsed}
 use Rattle.machine.specs.Turn.{acts, beat_of, turn_if, turn}
 use Rattle.machine.specs.Tick.{stopped, with_pulse, turns, tick_if, tick}
-use Rattle.machine.specs.Run.{quiet, one_more, beats_more, beginning, most_beats, run_of}
+use Rattle.machine.specs.Run.{Ran, quiet, one_more, beats_more, beginning, most_beats, run_of}
 use Rattle.machine.specs.Registers.{register_at, exec_of, mode_of, pair_of}
 use Rattle.machine.specs.Judged.{judged}
 use Rattle.machine.specs.Stored.{enters, stored}
-use Rattle.machine.specs.Burst.{Placed, visited, some_unlisted, succeeds, bytes_written, burst_of}
+use Rattle.machine.specs.Burst.{Placed, Written, visited, some_unlisted, succeeds, bytes_written, burst_of}
 use Rattle.machine.specs.Interrupts.{read_of}
 use Rattle.machine.specs.Calls.{Call, beat, run, burst, read_interrupts, after}
 use Rattle.machine.proofs.Common.{each_keeps, set_keeps}
+use Rattle.machine.specs.Outcome.{Outcome}
 
 -- chips
 -- each step of a call keeps G: an engine's turn, a pulse, an interrupt read, and a byte that is not refused
@@ -55,22 +54,22 @@ module _ (P : Profile) (G : Chip → Type 0) (S : Steps P G) where
       go true = g
       go false = turns_keep (engines_of P) 0 (with_pulse b m) (S.pulse b m g)
 
-  beats_keep : (n : ℕ) (r : RunResult) → G r.chip → G (beats_more P n r).chip
+  beats_keep : (n : ℕ) (r : Ran) → G r.chip → G (beats_more P n r).chip
   unfolding beats_more
   beats_keep zero r g = g
   beats_keep (suc n) r g =
-      by_cond (λ (u : RunResult). G u.chip) (quiet r.chip) (λ h. g) (λ h. beats_keep n (one_more P r) (tick_keeps false r.chip g))
+      by_cond (λ (u : Ran). G u.chip) (quiet r.chip) (λ h. g) (λ h. beats_keep n (one_more P r) (tick_keeps false r.chip g))
 
   pub run_keeps : (n : ℕ) (m : Chip) → G m → G (run_of P n m).chip
   unfolding run_of
-  run_keeps n m g = by_cond (λ (u : RunResult). G u.chip) (ltb most_beats n) (λ h. g) (λ h. beats_keep n (beginning P Success m) g)
+  run_keeps n m g = by_cond (λ (u : Ran). G u.chip) (ltb most_beats n) (λ h. g) (λ h. beats_keep n (beginning P (Ok tt) m) g)
 
   bytes_keep : (bs : List Placed) (m : Chip) → G m → G (bytes_written P bs m).chip
   unfolding bytes_written
   bytes_keep [] m g = g
   bytes_keep (b ∷ bs) m g =
       let r = register_at P b.address in
-      by_cond (λ (u : WriteResult). G u.chip) (succeeds (judged P r b.byte m))
+      by_cond (λ (u : Written). G u.chip) (succeeds (judged P r b.byte m))
       (λ h. bytes_keep bs (stored P r b.byte m) (S.byte r b.byte m h g))
       (λ h. g)
 
@@ -79,8 +78,8 @@ module _ (P : Profile) (G : Chip → Type 0) (S : Steps P G) where
   burst_keeps a [] m g = g
   burst_keeps a (v ∷ vs) m g =
       let bs = visited a (v ∷ vs) in
-      by_cond (λ (u : WriteResult). G u.chip) (some_unlisted P bs) (λ h. g)
-      (λ h. by_cond (λ (u : WriteResult). G u.chip) (succeeds (bytes_written P bs m).outcome) (λ k. bytes_keep bs m g) (λ k. g))
+      by_cond (λ (u : Written). G u.chip) (some_unlisted P bs) (λ h. g)
+      (λ h. by_cond (λ (u : Written). G u.chip) (succeeds (bytes_written P bs m).outcome) (λ k. bytes_keep bs m g) (λ k. g))
 
   pub calls_keep : (m : Chip) → G m → (k : Call) → G (after P k m)
   unfolding after
@@ -103,7 +102,7 @@ abbrev pub EveryEngine : Profile → (Engine → Type 0) → Chip → Type 0
 EveryEngine P F m = (i : ℕ) → F (engine_at P m i)
 
 -- a byte that is not refused lies inside its register
-pub inside : (n v : ℕ) (o : Outcome) → succeeds (cond (leb n v) OutsideRegister o) ≡ true → v < n
+pub inside : (n v : ℕ) (o : Outcome) → succeeds (cond (leb n v) (Err OutsideRegister) o) ≡ true → v < n
 inside n v o = by_cond (λ (u : Outcome). succeeds u ≡ true → v < n) (leb n v) (λ h e. absurd (false≢true e)) (λ h e. leb-false n v h)
 
 module _ (P : Profile) (F : Engine → Type 0) (S : EngineSteps P F) where

@@ -12,14 +12,13 @@ use Rattle.machine.specs.declared.Engine.{Engine}
 use Rattle.machine.specs.declared.Chip.{Chip}
 use Rattle.machine.specs.declared.Register.{Register}
 use Rattle.machine.specs.declared.Register.TheVariants.{Control, VariableD}
-use Rattle.machine.specs.declared.WriteResult.{WriteResult}
 use Rattle.machine.specs.Parts.{bit, zero_engine, engine_at, with_exec, with_interrupt}
 use Rattle.machine.specs.Triggers.{receives, pulsed}
 use Rattle.machine.specs.Tick.{with_pulse}
 use Rattle.machine.specs.Registers.{register_at, pair_of, exec_of}
 use Rattle.machine.specs.Judged.{judged}
 use Rattle.machine.specs.Stored.{stored}
-use Rattle.machine.specs.Burst.{Placed, visited, some_unlisted, succeeds, bytes_written, burst_of}
+use Rattle.machine.specs.Burst.{Placed, Written, visited, some_unlisted, succeeds, bytes_written, burst_of}
 use Rattle.machine.specs.Interrupts.{read_of}
 use Rattle.machine.specs.Calls.{burst, only_settings, allowed}
 use Rattle.machine.proofs.Common.{each_leaves}
@@ -72,7 +71,7 @@ alike_bytes : (P : Profile) (bs : List Placed) (m : Chip) → only_settings bs �
 unfolding bytes_written
 alike_bytes P [] m h = alike_refl P m
 alike_bytes P (b ∷ bs) m h =
-    by_cond (λ (u : WriteResult). Alike P m u.chip) (succeeds (judged P (register_at P b.address) b.byte m))
+    by_cond (λ (u : Written). Alike P m u.chip) (succeeds (judged P (register_at P b.address) b.byte m))
     (λ z. alike_trans P (alike_stored P b m (and_left (eqb b.address 0x00 || eqb b.address 0x3C) (only_settings bs) h))
     (alike_bytes P bs (stored P (register_at P b.address) b.byte m) (and_right (eqb b.address 0x00 || eqb b.address 0x3C) (only_settings bs) h)))
     (λ z. alike_refl P m)
@@ -81,8 +80,8 @@ alike_settings : (P : Profile) (a : ℕ) (vs : List ℕ) (m : Chip) → only_set
 unfolding burst_of
 alike_settings P a [] m h = alike_refl P m
 alike_settings P a (v ∷ vs) m h =
-    by_cond (λ (u : WriteResult). Alike P m u.chip) (some_unlisted P (visited a (v ∷ vs))) (λ z. alike_refl P m)
-    (λ z. by_cond (λ (u : WriteResult). Alike P m u.chip) (succeeds (bytes_written P (visited a (v ∷ vs)) m).outcome) (λ y. alike_bytes P (visited a (v ∷ vs)) m h) (λ y. alike_refl P m))
+    by_cond (λ (u : Written). Alike P m u.chip) (some_unlisted P (visited a (v ∷ vs))) (λ z. alike_refl P m)
+    (λ z. by_cond (λ (u : Written). Alike P m u.chip) (succeeds (bytes_written P (visited a (v ∷ vs)) m).outcome) (λ y. alike_bytes P (visited a (v ∷ vs)) m h) (λ y. alike_refl P m))
 
 pub alike_burst : (P : Profile) (a : ℕ) (vs : List ℕ) (m : Chip) → allowed P (burst a vs) m ≡ true → Alike P m (burst_of P a vs m).chip
 alike_burst P a vs m h =

@@ -11,10 +11,9 @@ use Rattle.laws.proofs.Tests.{by_test}
 use Rattle.word.specs.Profile.{Profile, LP5523, engines_of}
 use Rattle.machine.specs.declared.Chip.{Chip}
 use Rattle.machine.specs.declared.TickResult.{TickResult}
-use Rattle.machine.specs.declared.RunResult.{RunResult}
 use Rattle.machine.specs.Turn.{turn}
 use Rattle.machine.specs.Tick.{stopped, with_pulse, turns, tick_if, tick}
-use Rattle.machine.specs.Run.{quiet, most_beats, run_of}
+use Rattle.machine.specs.Run.{Ran, quiet, most_beats, run_of}
 use Rattle.machine.specs.Calls.{beat, run}
 use Rattle.machine.specs.Trace.{Trace, with_chip, trace_turn, trace_turns, trace_tick_if, trace_tick, trace_ticks, trace_call, trace_of, chip_at_turn, turns_of_beat}
 use Rattle.machine.specs.Theorems.{ticks, BeatsRecorded, StoppedRecorded, RunRecorded}
@@ -81,7 +80,7 @@ run_recorded P n s = by_test (ltb most_beats n) refused goes
     refused : ltb most_beats n ≡ true → trace_call P (run n) s ≡ trace_of P (replicate (run_of P n s.chip).beats (beat false)) s
     refused h =
         ap (λ (z : Bool). cond z s (trace_ticks P n s)) h
-        ∙ sym (ap (λ (r : RunResult). trace_of P (replicate r.beats (beat false)) s) (refused_run P n s.chip (ltb-true most_beats n h)))
+        ∙ sym (ap (λ (r : Ran). trace_of P (replicate r.beats (beat false)) s) (refused_run P n s.chip (ltb-true most_beats n h)))
 
     goes : ltb most_beats n ≡ false → trace_call P (run n) s ≡ trace_of P (replicate (run_of P n s.chip).beats (beat false)) s
     goes h =

@@ -6,13 +6,13 @@ use mathlib.Core.Path.{◌≡◌, refl, sym, ap, subst}
 use native.Mathlib.Omega.{arith}
 use lib.ListN.{length, get_or, length-replicate}
 use borrow.Author.Tests.{le-ltb}
+use Rattle.std.specs.Prelude.{Ok, Err}
 use Rattle.laws.proofs.Tests.{by_cond}
 use Rattle.word.specs.Profile.{Profile, engines_of}
 use Rattle.machine.specs.declared.Chip.{Chip}
-use Rattle.machine.specs.declared.RunResult.{RunResult}
-use Rattle.machine.specs.declared.Outcome.TheVariants.{Success, TooManyBeats}
+use Rattle.machine.specs.declared.CallError.TheVariants.{TooManyBeats}
 use Rattle.machine.specs.Tick.{tick}
-use Rattle.machine.specs.Run.{quiet, tally, one_more, beats_more, beginning, most_beats, run_of}
+use Rattle.machine.specs.Run.{Ran, quiet, tally, one_more, beats_more, beginning, most_beats, run_of}
 use Rattle.machine.specs.Theorems.{ticks, finished_in, RunIsBeats}
 use Rattle.machine.proofs.Common.{all_alike}
 
@@ -39,7 +39,7 @@ tally_most (b ∷ bs) (n ∷ ns) zero = by_cond (λ (k : ℕ). k ≤ n + 1) b (�
 tally_most (b ∷ bs) (n ∷ ns) (suc i) = tally_most bs ns i
 
 -- what s, the answer of at most n beats more from r on, has to do with single beats
-record Went (P : Profile) (n : ℕ) (r s : RunResult) : Type 0 where
+record Went (P : Profile) (n : ℕ) (r s : Ran) : Type 0 where
   done : ℕ
   upto : done ≤ n
   busy : (k : ℕ) → k < done → quiet (ticks P k r.chip) ≡ false
@@ -50,7 +50,7 @@ record Went (P : Profile) (n : ℕ) (r s : RunResult) : Type 0 where
   words : (i : ℕ) → i < length r.words → get_or s.words i 0 ≡ get_or r.words i 0 + finished_in P i done r.chip
   fewer : (i : ℕ) → get_or s.words i 0 ≤ get_or r.words i 0 + done
 
-none_done : (P : Profile) (n : ℕ) (r : RunResult) → (0 < n → quiet r.chip ≡ true) → Went P n r r
+none_done : (P : Profile) (n : ℕ) (r : Ran) → (0 < n → quiet r.chip ≡ true) → Went P n r r
 none_done P n r h =
     record {
       done = 0;
@@ -64,7 +64,7 @@ none_done P n r h =
       fewer = λ i. omega arith;
     }
 
-one_done : (P : Profile) (n : ℕ) (r s : RunResult) → quiet r.chip ≡ false → Went P n (one_more P r) s → Went P (suc n) r s
+one_done : (P : Profile) (n : ℕ) (r s : Ran) → quiet r.chip ≡ false → Went P n (one_more P r) s → Went P (suc n) r s
 one_done P n r s q w =
     record {
       done = suc w.done;
@@ -88,22 +88,22 @@ one_done P n r s q w =
     busy zero l = q
     busy (suc k) l = w.busy k (omega arith)
 
-went : (P : Profile) (n : ℕ) (r : RunResult) → Went P n r (beats_more P n r)
+went : (P : Profile) (n : ℕ) (r : Ran) → Went P n r (beats_more P n r)
 unfolding beats_more
 went P zero r = none_done P zero r (λ l. absurd (omega arith))
 went P (suc n) r =
-    by_cond (λ (s : RunResult). Went P (suc n) r s) (quiet r.chip)
+    by_cond (λ (s : Ran). Went P (suc n) r s) (quiet r.chip)
     (λ q. none_done P (suc n) r (λ l. q))
     (λ q. one_done P n r (beats_more P n (one_more P r)) q (went P n (one_more P r)))
 
 -- a run of no more beats than are allowed
-pub run_goes : (P : Profile) (n : ℕ) (m : Chip) → n ≤ most_beats → run_of P n m ≡ beats_more P n (beginning P Success m)
+pub run_goes : (P : Profile) (n : ℕ) (m : Chip) → n ≤ most_beats → run_of P n m ≡ beats_more P n (beginning P (Ok tt) m)
 unfolding run_of
-run_goes P n m h = ap (λ (b : Bool). cond b (beginning P TooManyBeats m) (beats_more P n (beginning P Success m))) (le-ltb most_beats n h)
+run_goes P n m h = ap (λ (b : Bool). cond b (beginning P (Err TooManyBeats) m) (beats_more P n (beginning P (Ok tt) m))) (le-ltb most_beats n h)
 
 pub run_is_beats : RunIsBeats
 run_is_beats P n m h =
-    let w : Went P n (beginning P Success m) (run_of P n m) = subst (λ (s : RunResult). Went P n (beginning P Success m) s) (sym (run_goes P n m h)) (went P n (beginning P Success m)) in
+    let w : Went P n (beginning P (Ok tt) m) (run_of P n m) = subst (λ (s : Ran). Went P n (beginning P (Ok tt) m) s) (sym (run_goes P n m h)) (went P n (beginning P (Ok tt) m)) in
     let e : w.done ≡ (run_of P n m).beats = omega (arith, w.beats) in
     record {
       outcome = w.outcome;

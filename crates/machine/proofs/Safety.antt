@@ -24,12 +24,11 @@ use Rattle.machine.specs.declared.Engine.{Engine}
 use Rattle.machine.specs.declared.Chip.{Chip}
 use Rattle.machine.specs.declared.BeatResult.{BeatResult}
 use Rattle.machine.specs.declared.TurnResult.{TurnResult}
-use Rattle.machine.specs.declared.RunResult.{RunResult}
 use Rattle.machine.specs.Parts.{zero_engine, engine_at}
 use Rattle.machine.specs.Triggers.{receives}
 use Rattle.machine.specs.Turn.{is_run, mid_word, acts, address_of, returned, beat_of, applied, turn, turn_if}
 use Rattle.machine.specs.Tick.{stopped, with_pulse, turns, tick, tick_if}
-use Rattle.machine.specs.Run.{quiet, one_more, beats_more, run_of, most_beats}
+use Rattle.machine.specs.Run.{Ran, quiet, one_more, beats_more, run_of, most_beats}
 use Rattle.machine.specs.Burst.{burst_of}
 use Rattle.machine.specs.Interrupts.{read_of}
 use Rattle.machine.specs.Loaded.{UsedEngine, LoadedEngine, Loaded}
@@ -258,18 +257,18 @@ tick_chip P b s = go (stopped s.chip)
     go true = refl
     go false = turns_chip P (engines_of P) 0 (with_chip (with_pulse b s.chip) s)
 
-ticks_chip : (P : Profile) (n : ℕ) (s : Trace) (r : RunResult) → s.chip ≡ r.chip → (trace_ticks P n s).chip ≡ (beats_more P n r).chip
+ticks_chip : (P : Profile) (n : ℕ) (s : Trace) (r : Ran) → s.chip ≡ r.chip → (trace_ticks P n s).chip ≡ (beats_more P n r).chip
 unfolding trace_ticks beats_more
 ticks_chip P zero s r h = h
 ticks_chip P (suc n) s r h =
     subst (λ (m : Chip). (trace_ticks P (suc n) s).chip ≡ (cond (quiet m) r (beats_more P n (one_more P r))).chip) h
-    (both (λ (u : Trace) (v : RunResult). u.chip ≡ v.chip) (quiet s.chip) h
+    (both (λ (u : Trace) (v : Ran). u.chip ≡ v.chip) (quiet s.chip) h
     (ticks_chip P n (trace_tick P false s) (one_more P r) (tick_chip P false s ∙ ap (λ (m : Chip). (tick P false m).chip) h)))
 
 call_chip : (P : Profile) (k : Call) (s : Trace) → (trace_call P k s).chip ≡ after P k s.chip
 unfolding trace_call after run_of
 call_chip P (beat b) s = tick_chip P b s
-call_chip P (run n) s = both (λ (u : Trace) (v : RunResult). u.chip ≡ v.chip) (ltb most_beats n) refl (ticks_chip P n s _ refl)
+call_chip P (run n) s = both (λ (u : Trace) (v : Ran). u.chip ≡ v.chip) (ltb most_beats n) refl (ticks_chip P n s _ refl)
 call_chip P (burst a vs) s = refl
 call_chip P read_interrupts s = refl
 

@@ -1,18 +1,17 @@
 -- When each number of refusal from 1 to 8 is given, as plain statements ("Numbers of refusal", "Given exactly when"). The tests are in
 -- specs/Judged.antt, specs/Burst.antt and specs/Run.antt; that they give each number exactly here is `BurstAnswers` and `RunAnswers`
 -- (specs/Theorems.antt).
-use Rattle.std.specs.Prelude.{ℕ, zero, suc, ◌+◌, ◌≤◌, ◌<◌, true, List, [], ◌⊎◌, ◌≡◌, length, get_or}
+use Rattle.std.specs.Prelude.{ℕ, zero, suc, ◌+◌, ◌≤◌, ◌<◌, true, List, [], ◌⊎◌, ◌≡◌, length, get_or, Ok, Err}
 use Rattle.word.specs.Profile.{Profile, words_of, pages_of}
 use Rattle.machine.specs.declared.Mode.TheVariants.{Disabled, Load, Run, Halt}
 use Rattle.machine.specs.declared.Progress.TheVariants.{BetweenWords}
 use Rattle.machine.specs.declared.Chip.{Chip}
-use Rattle.machine.specs.declared.Outcome.{Outcome}
-use Rattle.machine.specs.declared.Outcome.TheVariants.{Success, EmptyBurst, UnlistedAddress, OutsideRegister, LoadRefused, StartInUse, MemoryInUse, OutputHeld, TooManyBeats}
+use Rattle.machine.specs.declared.CallError.TheVariants.{EmptyBurst, UnlistedAddress, OutsideRegister, LoadRefused, StartInUse, MemoryInUse, OutputHeld, TooManyBeats}
 use Rattle.machine.specs.declared.Register.{Register}
 use Rattle.machine.specs.declared.Register.TheVariants.{Control, Modes, OutputLevel, VariableD, Start, Page, Memory, Unlisted}
 use Rattle.machine.specs.Parts.{bit, engine_at}
 use Rattle.machine.specs.Outputs.{holder}
-use Rattle.machine.specs.Outcome.{number_of}
+use Rattle.machine.specs.Outcome.{Outcome, number_of}
 use Rattle.machine.specs.Registers.{register_at, pair_of, mode_of}
 use Rattle.machine.specs.Stored.{stored}
 
@@ -64,15 +63,15 @@ pub record HeldOutput (P : Profile) (r : Register) (m : Chip) : Type 0 where
 
 -- The condition of each number of a byte: 3 to 7.
 abbrev pub ByteCondition : Profile → Register → ℕ → Chip → Outcome → Type 0
-ByteCondition P r v m Success = ⊥
-ByteCondition P r v m EmptyBurst = ⊥
-ByteCondition P r v m UnlistedAddress = ⊥
-ByteCondition P r v m OutsideRegister = OutsideField P r v
-ByteCondition P r v m LoadRefused = LoadAsked P r v m
-ByteCondition P r v m StartInUse = StartOfUsed P r m
-ByteCondition P r v m MemoryInUse = MemoryUsed P r m
-ByteCondition P r v m OutputHeld = HeldOutput P r m
-ByteCondition P r v m TooManyBeats = ⊥
+ByteCondition P r v m (Ok _) = ⊥
+ByteCondition P r v m (Err EmptyBurst) = ⊥
+ByteCondition P r v m (Err UnlistedAddress) = ⊥
+ByteCondition P r v m (Err OutsideRegister) = OutsideField P r v
+ByteCondition P r v m (Err LoadRefused) = LoadAsked P r v m
+ByteCondition P r v m (Err StartInUse) = StartOfUsed P r m
+ByteCondition P r v m (Err MemoryInUse) = MemoryUsed P r m
+ByteCondition P r v m (Err OutputHeld) = HeldOutput P r m
+ByteCondition P r v m (Err TooManyBeats) = ⊥
 
 abbrev pub NotRefused : Profile → Register → ℕ → Chip → Type 0
 NotRefused P r v m = (o : Outcome) → ByteCondition P r v m o → ⊥
@@ -112,24 +111,24 @@ NoneRefused P a vs m = (k : ℕ) → k < length vs → NotRefused P (register_of
 
 -- What a burst answers: "1, 2, then bytes in order".
 abbrev pub BurstCondition : Profile → ℕ → List ℕ → Chip → Outcome → Type 0
-BurstCondition P a vs m Success = (vs ≡ [] → ⊥) × AllListed P a vs × NoneRefused P a vs m
-BurstCondition P a vs m EmptyBurst = vs ≡ []
-BurstCondition P a vs m UnlistedAddress = SomeUnlisted P a vs
-BurstCondition P a vs m OutsideRegister = AllListed P a vs × FirstRefused P a vs m OutsideRegister
-BurstCondition P a vs m LoadRefused = AllListed P a vs × FirstRefused P a vs m LoadRefused
-BurstCondition P a vs m StartInUse = AllListed P a vs × FirstRefused P a vs m StartInUse
-BurstCondition P a vs m MemoryInUse = AllListed P a vs × FirstRefused P a vs m MemoryInUse
-BurstCondition P a vs m OutputHeld = AllListed P a vs × FirstRefused P a vs m OutputHeld
-BurstCondition P a vs m TooManyBeats = ⊥
+BurstCondition P a vs m (Ok _) = (vs ≡ [] → ⊥) × AllListed P a vs × NoneRefused P a vs m
+BurstCondition P a vs m (Err EmptyBurst) = vs ≡ []
+BurstCondition P a vs m (Err UnlistedAddress) = SomeUnlisted P a vs
+BurstCondition P a vs m (Err OutsideRegister) = AllListed P a vs × FirstRefused P a vs m (Err OutsideRegister)
+BurstCondition P a vs m (Err LoadRefused) = AllListed P a vs × FirstRefused P a vs m (Err LoadRefused)
+BurstCondition P a vs m (Err StartInUse) = AllListed P a vs × FirstRefused P a vs m (Err StartInUse)
+BurstCondition P a vs m (Err MemoryInUse) = AllListed P a vs × FirstRefused P a vs m (Err MemoryInUse)
+BurstCondition P a vs m (Err OutputHeld) = AllListed P a vs × FirstRefused P a vs m (Err OutputHeld)
+BurstCondition P a vs m (Err TooManyBeats) = ⊥
 
 -- What a run answers. 8: "beats above 1,000,000".
 abbrev pub RunCondition : ℕ → Outcome → Type 0
-RunCondition n Success = n ≤ 1000000
-RunCondition n EmptyBurst = ⊥
-RunCondition n UnlistedAddress = ⊥
-RunCondition n OutsideRegister = ⊥
-RunCondition n LoadRefused = ⊥
-RunCondition n StartInUse = ⊥
-RunCondition n MemoryInUse = ⊥
-RunCondition n OutputHeld = ⊥
-RunCondition n TooManyBeats = 1000000 < n
+RunCondition n (Ok _) = n ≤ 1000000
+RunCondition n (Err EmptyBurst) = ⊥
+RunCondition n (Err UnlistedAddress) = ⊥
+RunCondition n (Err OutsideRegister) = ⊥
+RunCondition n (Err LoadRefused) = ⊥
+RunCondition n (Err StartInUse) = ⊥
+RunCondition n (Err MemoryInUse) = ⊥
+RunCondition n (Err OutputHeld) = ⊥
+RunCondition n (Err TooManyBeats) = 1000000 < n

@@ -34,3 +34,16 @@ exec_of n = cond (eqb n 0) Hold (cond (eqb n 1) SingleStep (cond (eqb n 2) Free 
 -- "00 disabled, 01 load, 10 run, 11 halt."
 abbrev pub mode_of : ℕ → Mode
 mode_of n = cond (eqb n 0) Disabled (cond (eqb n 1) Load (cond (eqb n 2) Run Halt))
+
+-- And back: the two bits of a setting, and of a mode.
+abbrev pub exec_bits : Exec → ℕ
+exec_bits Hold = 0
+exec_bits SingleStep = 1
+exec_bits Free = 2
+exec_bits Once = 3
+
+abbrev pub mode_bits : Mode → ℕ
+mode_bits Disabled = 0
+mode_bits Load = 1
+mode_bits Run = 2
+mode_bits Halt = 3

@@ -1,12 +1,11 @@
 -- What is promised of the chip. The proofs are in proofs/Theorems.antt.
-use Rattle.std.specs.Prelude.{ℕ, zero, suc, ◌+◌, ◌*◌, ◌≤◌, ◌<◌, max, Bool, true, false, cond, List, ◌++◌, ◌↔◌, ◌≡◌, get_or, replicate}
+use Rattle.std.specs.Prelude.{ℕ, zero, suc, ◌+◌, ◌*◌, ◌≤◌, ◌<◌, max, Bool, true, false, cond, List, ◌++◌, ◌↔◌, ◌≡◌, get_or, replicate, Ok, Err}
 use Rattle.word.specs.Profile.{Profile, words_of, engines_of, pages_of}
 use Rattle.word.specs.Classes.{flow_of}
 use Rattle.word.specs.declared.Step.{Step}
 use Rattle.word.specs.declared.Direction.{Direction}
 use Rattle.word.specs.declared.Word.TheVariants.{Ramp, Wait, RampVar}
 use Rattle.plan.specs.declared.Plan.{Plan}
-use Rattle.plan.specs.declared.Verdict.TheVariants.{Accept}
 use Rattle.plan.specs.Conditions.{Accepted}
 use Rattle.plan.specs.Check.{check_of}
 use Rattle.machine.specs.declared.Progress.{Progress}
@@ -14,9 +13,8 @@ use Rattle.machine.specs.declared.Progress.TheVariants.{BetweenWords}
 use Rattle.machine.specs.declared.Engine.{Engine}
 use Rattle.machine.specs.declared.Output.{Output}
 use Rattle.machine.specs.declared.Chip.{Chip}
+use Rattle.machine.specs.declared.CallError.TheVariants.{TooManyBeats}
 use Rattle.machine.specs.declared.Effect.TheVariants.{Keep}
-use Rattle.machine.specs.declared.Outcome.{Outcome}
-use Rattle.machine.specs.declared.Outcome.TheVariants.{Success, TooManyBeats}
 use Rattle.machine.specs.Parts.{engine_at, with_pending}
 use Rattle.machine.specs.WordEnd.{ends}
 use Rattle.machine.specs.Durations.{beats_of, clamp_time}
@@ -25,7 +23,7 @@ use Rattle.machine.specs.Variables.{variable}
 use Rattle.machine.specs.Branches.{with_count, branches}
 use Rattle.machine.specs.Turn.{mid_word, acts, returned, beat_of, turn}
 use Rattle.machine.specs.Tick.{stopped, tick}
-use Rattle.machine.specs.Outcome.{number_of}
+use Rattle.machine.specs.Outcome.{Outcome, number_of}
 use Rattle.machine.specs.Run.{quiet, beginning, most_beats, run_of}
 use Rattle.machine.specs.Burst.{succeeds, burst_of}
 use Rattle.machine.specs.NewChip.{new_chip}
@@ -55,7 +53,7 @@ abbrev pub Demand3 : Type 0
 Demand3 = SequencesSafe Accepted
 
 abbrev pub CheckedSafe : Type 0
-CheckedSafe = SequencesSafe (λ (P : Profile) (p : Plan) (image : List ℕ). check_of P p image ≡ Accept)
+CheckedSafe = SequencesSafe (λ (P : Profile) (p : Plan) (image : List ℕ). check_of P p image ≡ Ok tt)
 
 -- 2. The frame, on every chip: what engine i's turn leaves as it was. Of another engine that is all but its pending triggers, and so its A,
 -- B, PC and counts.
@@ -116,7 +114,7 @@ abbrev pub RefusedBurst : Type 0
 RefusedBurst = (P : Profile) (a : ℕ) (vs : List ℕ) (m : Chip) → succeeds (burst_of P a vs m).outcome ≡ false → (burst_of P a vs m).chip ≡ m
 
 abbrev pub RefusedRun : Type 0
-RefusedRun = (P : Profile) (n : ℕ) (m : Chip) → most_beats < n → run_of P n m ≡ beginning P TooManyBeats m
+RefusedRun = (P : Profile) (n : ℕ) (m : Chip) → most_beats < n → run_of P n m ≡ beginning P (Err TooManyBeats) m
 
 abbrev pub StoppedBeat : Type 0
 StoppedBeat = (P : Profile) (pulse : Bool) (m : Chip) → stopped m ≡ true → tick P pulse m ≡ record { chip = m; pin = false; ended = replicate (engines_of P) false }
@@ -140,7 +138,7 @@ finished_in P i (suc n) m = let t = tick P false m in cond (get_or t.ended i fal
 
 pub record RunOf (P : Profile) (n : ℕ) (m : Chip) : Type 0 where
   -- it is not refused
-  pub outcome : (run_of P n m).outcome ≡ Success
+  pub outcome : (run_of P n m).outcome ≡ Ok tt
   -- the beats done are at most n, each was done on a chip that was not quiet, and the chip is quiet after them if they are fewer than n
   pub upto : (run_of P n m).beats ≤ n
   pub busy : (k : ℕ) → k < (run_of P n m).beats → quiet (ticks P k m) ≡ false

@@ -1,6 +1,7 @@
 -- A beat ("With the chip disabled or any engine in load mode a beat changes nothing. Otherwise a pin pulse, if given, becomes pending in
 -- all three engines; then engines 1, 2, 3 act in turn, each seeing what the earlier did (HOUSE)").
 use Rattle.std.specs.Prelude.{ℕ, zero, suc, Bool, true, false, not, ◌||◌, List, [], ◌∷◌, replicate}
+use Rattle.std.specs.List.{list_any}
 use Rattle.word.specs.Profile.{Profile, engines_of}
 use Rattle.machine.specs.declared.Mode.{Mode}
 use Rattle.machine.specs.declared.Mode.TheVariants.{Disabled, Load, Run, Halt}
@@ -13,8 +14,7 @@ use Rattle.machine.specs.Turn.{turn}
 
 -- Whether some engine is so.
 abbrev pub some : (Engine → Bool) → List Engine → Bool
-some f [] = false
-some f (e ∷ es) = f e || some f es
+some f es = list_any f es
 
 abbrev pub is_load : Mode → Bool
 is_load Disabled = false

@@ -1,10 +1,10 @@
 // A word as the values of its line: the place of its operation in document 01's table, counted from
 // 0, and its operands in the order of the line. Values that the line doesn't have are 0.
-ghost use Rattle.std.specs.Prelude.{[], ◌∷◌, ◌≡◌, ◌≤◌};
+// The places stand here as numbers, since they are document 01's rows, as op_lines/specs/Values has them.
+ghost use Rattle.std.specs.Prelude.{◌≡◌, ◌≤◌};
 ghost use denote.Enum.Declared.{tag_of};
 ghost use Rattle.word.specs.Profile.{LP5523};
 ghost use Rattle.word.specs.contracts.Word.{the_type};
-ghost use Rattle.grammar.specs.Values.{values_of};
 ghost use Rattle.op_lines.specs.Values.{direction_place, jump_row, arith_row, arith_var_row, mux_at_row, mux_move_row, word_values};
 
 use grammar::Values;
@@ -72,37 +72,22 @@ fn mux_move_row(op: MuxMoveOp) -> u16
     }
 }
 
-#[tactic(auto, unfolding(grammar::specs::Values::values_of))]
-fn values(row: u16, a: u16, b: u16, c: u16, d: u16) -> Values
-    ensures { result ≡ values_of (row ∷ a ∷ b ∷ c ∷ d ∷ []) }
-{
-    Values {
-        a: row,
-        b: a,
-        c: b,
-        d: c,
-        e: d,
-        f: 0,
-        g: 0,
-    }
-}
-
-// Words of the mapping table, and those after them in `Word`, counted from 0.
+// The words from `MuxAt` on, case 10 of `Word` counted from 0.
 #[tactic(auto, unfolding(grammar::specs::Values::values_of, op_lines::specs::Values::op_values))]
 fn later_values(word: Word) -> Values
     requires { 10 ≤ tag_of the_type word }
     ensures { result ≡ word_values LP5523 word }
 {
     match word {
-        Word::MuxAt { op, address } => values(mux_at_row(op), address.0, 0, 0, 0),
-        Word::MuxClr => values(21, 0, 0, 0, 0),
-        Word::MuxSel { output } => values(22, output, 0, 0, 0),
-        Word::MuxMove { op } => values(mux_move_row(op), 0, 0, 0, 0),
-        Word::Branch { loops, step } => values(27, loops, step.0, 0, 0),
-        Word::End { int, reset } => values(28, int, reset, 0, 0),
-        Word::Int => values(29, 0, 0, 0, 0),
-        Word::Trigger { wait, send } => values(30, wait, send, 0, 0),
-        _ => values(31, 0, 0, 0, 0),
+        Word::MuxAt { op, address } => [mux_at_row(op), address.0, 0, 0, 0, 0, 0],
+        Word::MuxClr => [21, 0, 0, 0, 0, 0, 0],
+        Word::MuxSel { output } => [22, output, 0, 0, 0, 0, 0],
+        Word::MuxMove { op } => [mux_move_row(op), 0, 0, 0, 0, 0, 0],
+        Word::Branch { loops, step } => [27, loops, step.0, 0, 0, 0, 0],
+        Word::End { int, reset } => [28, int, reset, 0, 0, 0, 0],
+        Word::Int => [29, 0, 0, 0, 0, 0, 0],
+        Word::Trigger { wait, send } => [30, wait, send, 0, 0, 0, 0],
+        _ => [31, 0, 0, 0, 0, 0, 0],
     }
 }
 
@@ -112,36 +97,36 @@ pub fn values_of(word: Word) -> Values
     ensures { result ≡ word_values LP5523 word }
 {
     match word {
-        Word::Rst => values(0, 0, 0, 0, 0),
+        Word::Rst => [0, 0, 0, 0, 0, 0, 0],
         Word::Ramp {
             prescale,
             time,
             dir,
             count,
-        } => values(1, prescale, time, direction_place(dir), count),
-        Word::Wait { prescale, time } => values(2, prescale, time, 0, 0),
-        Word::Set { value } => values(3, value, 0, 0, 0),
+        } => [1, prescale, time, direction_place(dir), count, 0, 0],
+        Word::Wait { prescale, time } => [2, prescale, time, 0, 0, 0, 0],
+        Word::Set { value } => [3, value, 0, 0, 0, 0, 0],
         Word::RampVar {
             prescale,
             dir,
             time,
             count,
-        } => values(4, prescale, direction_place(dir), time, count),
-        Word::SetVar { from } => values(5, from, 0, 0, 0),
-        Word::BranchVar { loops, step } => values(6, loops, step.0, 0, 0),
+        } => [4, prescale, direction_place(dir), time, count, 0, 0],
+        Word::SetVar { from } => [5, from, 0, 0, 0, 0, 0],
+        Word::BranchVar { loops, step } => [6, loops, step.0, 0, 0, 0, 0],
         Word::Jump {
             op,
             skip,
             left,
             right,
-        } => values(jump_row(op), skip, left, right, 0),
-        Word::Arith { op, to, value } => values(arith_row(op), to, value, 0, 0),
+        } => [jump_row(op), skip, left, right, 0, 0, 0],
+        Word::Arith { op, to, value } => [arith_row(op), to, value, 0, 0, 0, 0],
         Word::ArithVar {
             op,
             to,
             left,
             right,
-        } => values(arith_var_row(op), to, left, right, 0),
+        } => [arith_var_row(op), to, left, right, 0, 0, 0],
         _ => later_values(word),
     }
 }

@@ -3,6 +3,7 @@ use Prim.Native.Nat.{ℕ, zero, suc, ◌<◌}
 use mathlib.Core.Bool.{Bool, true, false, cond, and-eq-true_iff, false≢true}
 use mathlib.Core.List.{List, [], ◌∷◌, map}
 use mathlib.Core.Path.{◌≡◌, refl, sym, ap, ap₂, ◌∙◌}
+use native.Mathlib.Nat.{le_of_suc-le-suc, not-suc-le-zero}
 use native.Mathlib.Omega.{arith}
 use lib.Dec.{eqb, ltb}
 use lib.ListN.{length, get_or, get_or-map}
@@ -11,12 +12,24 @@ use Rattle.word.specs.Profile.{Profile, LP5523}
 use Rattle.word.specs.declared.Word.TheVariants.{Undefined}
 use Rattle.grammar.specs.Form.{Kind, number, decision, Pair, keyword}
 use Rattle.grammar.specs.Grammar.{direction_of, op_form}
-use Rattle.grammar.specs.declared.Values.{Values}
-use Rattle.grammar.specs.Values.{list_of}
 use Rattle.grammar.specs.Theorems.{is_empty, fits_kind, fits_after, fits_form, fits_op}
-use Rattle.grammar.proofs.Tables.{tabulate, tabled}
 use Rattle.op_lines.specs.Words.{words_with, word_of}
 use Rattle.op_lines.specs.Values.{direction_place, op_values}
+
+-- ---- lists that a function of the place gives
+
+-- f 0, f 1, .. f (n - 1)
+abbrev tabulate : {A : Type 0} → ℕ → (ℕ → A) → List A
+tabulate zero f = []
+tabulate (suc n) f = f zero ∷ tabulate n (λ i. f (suc i))
+
+get_or-tabulate : {A : Type 0} (n : ℕ) (f : ℕ → A) (d : A) (k : ℕ) → k < n → get_or (tabulate n f) k d ≡ f k
+get_or-tabulate zero f d k h = absurd (not-suc-le-zero h)
+get_or-tabulate (suc n) f d zero h = refl
+get_or-tabulate (suc n) f d (suc k) h = get_or-tabulate n (λ i. f (suc i)) d k (le_of_suc-le-suc h)
+
+tabled : {A : Type 0} (xs : List A) (n : ℕ) (f : ℕ → A) (d : A) → xs ≡ tabulate n f → (k : ℕ) → k < n → get_or xs k d ≡ f k
+tabled xs n f d e k h = ap (λ (l : List _). get_or l k d) e ∙ get_or-tabulate n f d k h
 
 -- ---- the values that a form takes from some numbers
 
@@ -83,11 +96,12 @@ word_values_lem o ns h =
     ∙ tabled _ 31 (λ o. o ∷ values_from (op_form LP5523 o) g) none (words_values g) o h
 
 -- the first value of the word of a row is the row, and that of the undefined word is past the last
-pub defined : (v : Values) → v.a < 31 → word_of LP5523 (list_of v) ≡ Undefined → ⊥
-unfolding list_of op_values
-defined v h u =
-    let w = word_values_lem v.a (v.b ∷ v.c ∷ v.d ∷ v.e ∷ v.f ∷ v.g ∷ []) h in
-    let e : v.a ≡ 31 = ap (λ (ms : List ℕ). get_or ms 0 0) (sym w ∙ ap (op_values LP5523) u) in
+pub defined : (v : List ℕ) → 0 < length v → get_or v 0 0 < 31 → word_of LP5523 v ≡ Undefined → ⊥
+unfolding op_values
+defined [] l h u = absurd (omega arith)
+defined (o ∷ ns) l h u =
+    let w = word_values_lem o ns h in
+    let e : o ≡ 31 = ap (λ (ms : List ℕ). get_or ms 0 0) (sym w ∙ ap (op_values LP5523) u) in
     omega arith
 
 pub filled : (P : Profile) (ns : List ℕ) → fits_op P ns ≡ true → op_values P (word_of P ns) ≡ ns

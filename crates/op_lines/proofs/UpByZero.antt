@@ -9,9 +9,10 @@ use Rattle.word.specs.Field.{inside, flag, time}
 use Rattle.word.specs.declared.Direction.TheVariants.{Up}
 use Rattle.word.specs.declared.Word.TheVariants.{Ramp}
 use Rattle.grammar.specs.declared.LineKind.TheVariants.{Op}
-use Rattle.grammar.specs.declared.Value.{Value}
-use Rattle.grammar.specs.declared.Value.TheVariants.{Number, Malformed, Outside}
-use Rattle.grammar.specs.Form.{Reading, values, refused, place_of, read_keyword, held, read_value, read_pair, before, at_end, followed, read_form, write_value, write_pair, continued, write_form}
+use Rattle.std.specs.Prelude.{Result, Ok, Err}
+use Rattle.text.specs.declared.ValueError.{ValueError}
+use Rattle.text.specs.declared.ValueError.TheVariants.{Malformed, Outside}
+use Rattle.grammar.specs.Form.{Reading, values, place_of, read_keyword, held, read_value, read_pair, before, at_end, followed, read_form, write_value, write_pair, continued, write_form}
 use Rattle.grammar.specs.Grammar.{◌within◌, op_names, op_form, named, read_op, read_parts, read_line, write_op, write_parts}
 use Rattle.grammar.proofs.Lines.{line_matched}
 use Rattle.grammar.proofs.Steps.{refused_values}
@@ -21,8 +22,8 @@ use Rattle.op_lines.specs.Theorems.{UpByZero}
 use Rattle.op_lines.proofs.Numbers.{ByZero, read_filled}
 
 -- what is read of the two parts in the middle, and of the line
-abbrev around : Value → Value → Reading
-around v w = before (Number 1) (before v (before w (values (0 ∷ 0 ∷ []))))
+abbrev around : Result ℕ ValueError → Result ℕ ValueError → Reading
+around v w = before (Ok 1) (before v (before w (values (0 ∷ 0 ∷ []))))
 
 read_around : (p t : List ℕ) → read_parts LP5523 Op (ascii "op=ramp" ∷ p ∷ t ∷ ascii "dir=up" ∷ ascii "count=0" ∷ [])
     ≡ around (read_pair (◌within◌ LP5523 "prescale" flag) p) (read_pair (◌within◌ LP5523 "time" time) t)
@@ -30,24 +31,17 @@ unfolding read_parts read_op named op_names op_form read_form followed at_end be
 read_around p t = refl
 
 -- where values are read, they stand for a ramp up by 0
-stands : (v w : Value) (ns : List ℕ) → around v w ≡ values ns → (p : ℕ) × (t : ℕ) × (word_of LP5523 ns ≡ Ramp p t Up 0)
+stands : (v w : Result ℕ ValueError) (ns : List ℕ) → around v w ≡ values ns → (p : ℕ) × (t : ℕ) × (word_of LP5523 ns ≡ Ramp p t Up 0)
 unfolding before
-stands (Number p) (Number t) ns e = (p, t, ap (word_of LP5523) (sym (values_are e)))
-  where
-    list_in : Reading → List ℕ
-    list_in (values ms) = ms
-    list_in (refused k) = []
-
-    values_are : {ms ns : List ℕ} → values ms ≡ values ns → ms ≡ ns
-    values_are e = ap list_in e
-stands (Number p) Malformed ns e = absurd (refused_values e)
-stands (Number p) Outside ns e = absurd (refused_values e)
-stands Malformed (Number t) ns e = absurd (refused_values e)
-stands Malformed Malformed ns e = absurd (refused_values e)
-stands Malformed Outside ns e = absurd (refused_values e)
-stands Outside (Number t) ns e = absurd (refused_values e)
-stands Outside Malformed ns e = absurd (refused_values e)
-stands Outside Outside ns e = absurd (refused_values e)
+stands (Ok p) (Ok t) ns e = (p, t, cc)
+stands (Ok p) (Err Malformed) ns e = absurd (refused_values e)
+stands (Ok p) (Err Outside) ns e = absurd (refused_values e)
+stands (Err Malformed) (Ok t) ns e = absurd (refused_values e)
+stands (Err Malformed) (Err Malformed) ns e = absurd (refused_values e)
+stands (Err Malformed) (Err Outside) ns e = absurd (refused_values e)
+stands (Err Outside) (Ok t) ns e = absurd (refused_values e)
+stands (Err Outside) (Err Malformed) ns e = absurd (refused_values e)
+stands (Err Outside) (Err Outside) ns e = absurd (refused_values e)
 
 pub parts_stand : (P : Profile) (line ns : List ℕ) → read_line P Op line ≡ values ns → UpByZero (split space line) → ByZero P line
 unfolding read_line

@@ -19,7 +19,7 @@ use Rattle.word.specs.declared.Word.TheVariants.{Rst, Ramp, Wait, Set, RampVar, 
 use Rattle.word.proofs.Fields.{from_least}
 use Rattle.grammar.specs.Form.{continued, write_form}
 use Rattle.grammar.specs.Grammar.{op_form, write_op}
-use Rattle.grammar.specs.Values.{values_of, list_of}
+use Rattle.grammar.specs.Values.{values_of}
 use Rattle.grammar.specs.Theorems.{fits_form, fits_op}
 use Rattle.op_lines.specs.Words.{word_of}
 use Rattle.op_lines.specs.Values.{op_values, word_values}
@@ -37,11 +37,11 @@ RampByZero i = (p : ℕ) × (t : ℕ) × (i ≡ Ramp p t Up 0)
 -- `padded`: the zeros after a word's last operand, where there is room for seven values, are not written.
 pub record Written (P : Profile) (i : Word) : Type 0 where
   pub again : word_of P (op_values P i) ≡ i
-  pub padded : write_op P (list_of (word_values P i)) ≡ write_op P (op_values P i)
+  pub padded : write_op P (word_values P i) ≡ write_op P (op_values P i)
   pub fitting : RampByZero i ⊎ (fits_op P (op_values P i) ≡ codes P (encoding_of i))
 
 -- a word whose values fit exactly where it has a code
-coded : {P : Profile} {i : Word} → word_of P (op_values P i) ≡ i → write_op P (list_of (word_values P i)) ≡ write_op P (op_values P i)
+coded : {P : Profile} {i : Word} → word_of P (op_values P i) ≡ i → write_op P (word_values P i) ≡ write_op P (op_values P i)
     → fits_op P (op_values P i) ≡ codes P (encoding_of i) → Written P i
 coded a p f = record { again = a; padded = p; fitting = inr f }
 
@@ -55,7 +55,7 @@ swapped {x} {y} p q = two p q ∙ turn x y
     turn false false = refl
 
 pub written : (P : Profile) (i : Word) → Written P i
-unfolding op_values op_form fits_form fits_op list_of values_of write_op write_form continued
+unfolding op_values op_form fits_form fits_op values_of write_op write_form continued
 written LP5523 Rst = coded refl refl refl
 written LP5523 (Ramp p t Up zero) = record { again = refl; padded = refl; fitting = inl (p, t, refl) }
 written LP5523 (Ramp p t Up (suc n)) =

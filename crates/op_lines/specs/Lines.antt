@@ -1,17 +1,17 @@
 -- Op lines and the words that they stand for.
-use Rattle.std.specs.Prelude.{ℕ, cond, List, ◌++◌, eqb, leb, length, drop}
+use Rattle.std.specs.Prelude.{ℕ, cond, List, ◌++◌, Result, Ok, Err, eqb, leb, length, drop}
 use Rattle.word.specs.Profile.{Profile}
 use Rattle.word.specs.Answer.{Answer, success, refusal}
 use Rattle.word.specs.Table.{encode_of}
 use Rattle.word.specs.Decode.{decode_of}
 use Rattle.word.specs.Classes.{is_undefined}
+use Rattle.grammar.specs.declared.LineError.{LineError}
 use Rattle.grammar.specs.declared.LineKind.TheVariants.{Op}
 use Rattle.grammar.specs.Form.{Reading, values, refused}
 use Rattle.grammar.specs.Grammar.{read_line, write_line}
-use Rattle.op_lines.specs.declared.WordLine.{WordLine}
-use Rattle.op_lines.specs.declared.WordLine.TheVariants.{Code, Malformed, UnknownOp, OutsideField}
-use Rattle.op_lines.specs.declared.WordWritten.{WordWritten}
-use Rattle.op_lines.specs.declared.WordWritten.TheVariants.{Length, UndefinedWord, TooShort}
+use Rattle.grammar.specs.Values.{number_of}
+use Rattle.op_lines.specs.declared.WriteError.{WriteError}
+use Rattle.op_lines.specs.declared.WriteError.TheVariants.{UndefinedWord, TooShort}
 use Rattle.op_lines.specs.Words.{word_of}
 use Rattle.op_lines.specs.Values.{op_values}
 
@@ -30,11 +30,9 @@ op_line_of P w = write_line P Op (op_values P (decode_of P w))
 
 -- ---- the functions' answers in document 01's terms
 
-abbrev pub answer_of : WordLine → Answer
-answer_of (Code w) = success w
-answer_of Malformed = refusal 20
-answer_of UnknownOp = refusal 21
-answer_of OutsideField = refusal 22
+abbrev pub answer_of : Result ℕ LineError → Answer
+answer_of (Ok w) = success w
+answer_of (Err e) = refusal (number_of e)
 
 -- What writing a line gives: the number of the refusal, zero for success, and the line's length, zero where it is not written.
 pub record Written : Type 0 where
@@ -47,10 +45,10 @@ wrote n = record { number = 0; size = n }
 abbrev pub unwritten : ℕ → Written
 unwritten k = record { number = k; size = 0 }
 
-abbrev pub written_of : WordWritten → Written
-written_of (Length n) = wrote n
-written_of UndefinedWord = unwritten 13
-written_of TooShort = unwritten 24
+abbrev pub written_of : Result ℕ WriteError → Written
+written_of (Ok n) = wrote n
+written_of (Err UndefinedWord) = unwritten 13
+written_of (Err TooShort) = unwritten 24
 
 -- Writing the line of a code where there is room for so many bytes: 13 for the undefined word, then 24 where the line is longer than the
 -- room. No line is empty, so that no two answers are the same here.

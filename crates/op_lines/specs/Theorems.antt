@@ -1,5 +1,5 @@
 -- What is promised of op lines. The proofs are in proofs/Theorems.antt, those of the samples in proofs/Samples.antt.
-use Rattle.std.specs.Prelude.{ℕ, List, [], ◌∷◌, map, ◌↔◌, ◌⊎◌, ◌≡◌}
+use Rattle.std.specs.Prelude.{ℕ, List, [], ◌∷◌, Result, Ok, Err, map, ◌↔◌, ◌⊎◌, ◌≡◌}
 use Prim.Native.String.{String}
 use Rattle.text.specs.Bytes.{ascii, space, split}
 use Rattle.word.specs.Profile.{Profile, LP5523}
@@ -11,9 +11,9 @@ use Rattle.grammar.specs.declared.LineKind.TheVariants.{Op}
 use Rattle.grammar.specs.Conditions.{LineWellFormed, LineUnknown, LineOutside}
 use Rattle.op_lines.specs.Words.{word_of}
 use Rattle.op_lines.specs.Values.{op_values}
-use Rattle.op_lines.specs.declared.WordLine.TheVariants.{Code, Malformed, UnknownOp, OutsideField}
-use Rattle.op_lines.specs.declared.WordWritten.{WordWritten}
-use Rattle.op_lines.specs.declared.WordWritten.TheVariants.{Length, UndefinedWord, TooShort}
+use Rattle.grammar.specs.declared.LineError.TheVariants.{Malformed, UnknownOp, OutsideField}
+use Rattle.op_lines.specs.declared.WriteError.{WriteError}
+use Rattle.op_lines.specs.declared.WriteError.TheVariants.{UndefinedWord, TooShort}
 use Rattle.op_lines.specs.Lines.{assemble_line_of, op_line_of, answer_of, written_of}
 
 -- The values of a word's line stand for the word.
@@ -162,6 +162,6 @@ SamplesRefused = map (λ (s : Sample). (assemble_line_of LP5523 s.text).number) 
 -- The number and the values of every answer.
 abbrev pub AnswersNumbered : Type 0
 AnswersNumbered =
-    (map answer_of (Code 0x40FF ∷ Malformed ∷ UnknownOp ∷ OutsideField ∷ []) ≡ success 0x40FF ∷ refusal 20 ∷ refusal 21 ∷ refusal 22 ∷ [])
-    × (map (λ (r : WordWritten). (written_of r).number) (Length 16 ∷ UndefinedWord ∷ TooShort ∷ []) ≡ 0 ∷ 13 ∷ 24 ∷ [])
-    × (map (λ (r : WordWritten). (written_of r).size) (Length 16 ∷ UndefinedWord ∷ TooShort ∷ []) ≡ 16 ∷ 0 ∷ 0 ∷ [])
+    (map answer_of (Ok 0x40FF ∷ Err Malformed ∷ Err UnknownOp ∷ Err OutsideField ∷ []) ≡ success 0x40FF ∷ refusal 20 ∷ refusal 21 ∷ refusal 22 ∷ [])
+    × (map (λ (r : Result ℕ WriteError). (written_of r).number) (Ok 16 ∷ Err UndefinedWord ∷ Err TooShort ∷ []) ≡ 0 ∷ 13 ∷ 24 ∷ [])
+    × (map (λ (r : Result ℕ WriteError). (written_of r).size) (Ok 16 ∷ Err UndefinedWord ∷ Err TooShort ∷ []) ≡ 16 ∷ 0 ∷ 0 ∷ [])

@@ -16,7 +16,6 @@ use Rattle.word.specs.declared.MuxMoveOp.{MuxMoveOp}
 use Rattle.word.specs.declared.MuxMoveOp.TheVariants.{MuxMapNext, MuxLdNext, MuxMapPrev, MuxLdPrev}
 use Rattle.word.specs.declared.Word.{Word}
 use Rattle.word.specs.declared.Word.TheVariants.{Rst, Ramp, Wait, Set, RampVar, SetVar, BranchVar, Jump, Arith, ArithVar, MuxAt, MuxClr, MuxSel, MuxMove, Branch, End, Int, Trigger, Undefined}
-use Rattle.grammar.specs.declared.Values.{Values}
 use Rattle.grammar.specs.Grammar.{op_lines}
 use Rattle.grammar.specs.Values.{values_of}
 
@@ -78,5 +77,5 @@ op_values P (Trigger w x) = 30 ∷ w ∷ x ∷ []
 op_values P Undefined = length (op_lines P) ∷ []
 
 -- The same as the functions have them: 0 past the last.
-abbrev pub word_values : Profile → Word → Values
+abbrev pub word_values : Profile → Word → List ℕ
 word_values P i = values_of (op_values P i)

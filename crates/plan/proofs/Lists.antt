@@ -1,4 +1,4 @@
--- What it says that every verdict of the order is met: engine by engine, address by address.
+-- What it says that every condition of the order is met: engine by engine, address by address.
 use Prim.Native.Nat.{ℕ, zero, suc, ◌+◌, ◌-◌, ◌≤◌, ◌<◌}
 use mathlib.Core.List.{List, [], ◌∷◌, map, ◌++◌}
 use mathlib.Core.Logic.Iff
@@ -10,11 +10,13 @@ use borrow.Author.Tests.{eqb-true, eqb-false}
 use Rattle.laws.proofs.Tests.{by_test}
 use Rattle.word.specs.Profile.{Profile, LP5523, upward}
 use Rattle.word.specs.declared.Address.{Address}
+use Rattle.std.proofs.Common.{Option, None, Some}
+use Rattle.plan.specs.declared.AddressRange.{AddressRange}
 use Rattle.plan.specs.declared.EnginePlan.{EnginePlan}
-use Rattle.plan.specs.declared.EnginePlan.TheVariants.{Unused, CodeOnly, CodeAndTable}
+use Rattle.plan.specs.declared.EnginePlan.TheVariants.{Unused}
 use Rattle.plan.specs.declared.Plan.{Plan}
-use Rattle.plan.specs.declared.Verdict.{Verdict}
-use Rattle.plan.specs.Ranges.{plan_at, InRange, InCode, InTable, addresses, code_addresses, table_addresses}
+use Rattle.plan.specs.declared.CheckError.{CheckError}
+use Rattle.plan.specs.Ranges.{plan_at, InRange, InSome, addresses, some_addresses}
 use Rattle.plan.specs.Conditions.{AllIn}
 use Rattle.plan.specs.Check.{engine_numbers, joined}
 use Rattle.plan.specs.Theorems.{AllOf}
@@ -47,18 +49,9 @@ module _ (R : ℕ → Type 0) where
     λ h. upward_in R f.0 (l.0 + 1 - f.0) (λ a p q. h a (omega arith)),
   )
 
-  none_all : AllIn R [] ↔ ((a : ℕ) → ⊥ → R a)
-  none_all = (λ h a z. absurd z, λ h. tt)
-
-  code_all : (q : EnginePlan) → AllIn R (code_addresses q) ↔ ((a : ℕ) → InCode q a → R a)
-  code_all Unused = none_all
-  code_all (CodeOnly f l) = range_all f l
-  code_all (CodeAndTable f l t b) = range_all f l
-
-  table_all : (q : EnginePlan) → AllIn R (table_addresses q) ↔ ((a : ℕ) → InTable q a → R a)
-  table_all Unused = none_all
-  table_all (CodeOnly f l) = none_all
-  table_all (CodeAndTable f l t b) = range_all t b
+  some_all : (r : Option AddressRange) → AllIn R (some_addresses r) ↔ ((a : ℕ) → InSome r a → R a)
+  some_all None = (λ h a z. absurd z, λ h. tt)
+  some_all (Some r) = range_all r.first r.last
 
 -- an engine that isn't one of the chip's is unused
 pub engine_all : (R : EnginePlan → Type 0) → R Unused → (P : Profile) (p : Plan) → AllIn (λ i. R (plan_at P p i)) (engine_numbers P) → (i : ℕ) → R (plan_at P p i)
@@ -68,28 +61,25 @@ engine_all R u LP5523 p h (suc (suc zero)) = h.1.0
 engine_all R u LP5523 p h (suc (suc (suc zero))) = h.1.1.0
 engine_all R u LP5523 p h (suc (suc (suc (suc i)))) = u
 
--- lists of verdicts
-module _ (F : Verdict → Type 0) where
-  pub met_append : (xs ys : List Verdict) → AllOf F (xs ++ ys) ↔ (AllOf F xs × AllOf F ys)
+-- lists of refusals
+module _ (F : CheckError → Type 0) where
+  pub met_append : (xs ys : List CheckError) → AllOf F (xs ++ ys) ↔ (AllOf F xs × AllOf F ys)
   met_append [] ys = (λ h. (tt, h), λ h. h.1)
   met_append (x ∷ xs) ys = let r = met_append xs ys in (
     λ h. ((h.0, (r.0 h.1).0), (r.0 h.1).1),
     λ h. (h.0.0, r.1 (h.0.1, h.1)),
   )
 
-  pub met_map : (g : ℕ → Verdict) (xs : List ℕ) → AllOf F (map g xs) ↔ AllIn (λ x. F (g x)) xs
+  pub met_map : (g : ℕ → CheckError) (xs : List ℕ) → AllOf F (map g xs) ↔ AllIn (λ x. F (g x)) xs
   met_map g [] = (λ h. tt, λ h. tt)
   met_map g (x ∷ xs) = let r = met_map g xs in (λ h. (h.0, r.0 h.1), λ h. (h.0, r.1 h.1))
 
-  pub met_joined : (g : ℕ → List Verdict) (xs : List ℕ) → AllOf F (joined g xs) ↔ AllIn (λ x. AllOf F (g x)) xs
+  pub met_joined : (g : ℕ → List CheckError) (xs : List ℕ) → AllOf F (joined g xs) ↔ AllIn (λ x. AllOf F (g x)) xs
   met_joined g [] = (λ h. tt, λ h. tt)
   met_joined g (x ∷ xs) = let r = met_joined g xs in (
     λ h. let s = (met_append (g x) (joined g xs)).0 h in (s.0, r.0 s.1),
     λ h. (met_append (g x) (joined g xs)).1 (h.0, r.1 h.1),
   )
 
-  pub over_code : (g : ℕ → List Verdict) (q : EnginePlan) → AllOf F (joined g (code_addresses q)) ↔ ((a : ℕ) → InCode q a → AllOf F (g a))
-  over_code g q = Iff.trans (met_joined g (code_addresses q)) (code_all (λ a. AllOf F (g a)) q)
-
-  pub over_table : (g : ℕ → List Verdict) (q : EnginePlan) → AllOf F (joined g (table_addresses q)) ↔ ((a : ℕ) → InTable q a → AllOf F (g a))
-  over_table g q = Iff.trans (met_joined g (table_addresses q)) (table_all (λ a. AllOf F (g a)) q)
+  pub over_some : (g : ℕ → List CheckError) (r : Option AddressRange) → AllOf F (joined g (some_addresses r)) ↔ ((a : ℕ) → InSome r a → AllOf F (g a))
+  over_some g r = Iff.trans (met_joined g (some_addresses r)) (some_all (λ a. AllOf F (g a)) r)

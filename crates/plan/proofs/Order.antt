@@ -1,4 +1,4 @@
--- What it says that a verdict is the first of the order of which something doesn't hold: at which engine and address, and what holds before.
+-- What it says that a refusal is the first of the order of which something doesn't hold: at which engine and address, and what holds before.
 use Prim.Native.Nat.{ℕ, zero, suc, ◌+◌, ◌-◌, ◌≤◌, ◌<◌}
 use mathlib.Core.List.{List, [], ◌∷◌, map}
 use mathlib.Core.Logic.{◌↔◌, inl}
@@ -9,11 +9,13 @@ use borrow.Author.Tests.{eqb-true, eqb-false}
 use Rattle.laws.proofs.Tests.{by_test}
 use Rattle.word.specs.Profile.{Profile, LP5523, upward, engines_of}
 use Rattle.word.specs.declared.Address.{Address}
+use Rattle.std.proofs.Common.{Option, None, Some}
+use Rattle.plan.specs.declared.AddressRange.{AddressRange}
 use Rattle.plan.specs.declared.EnginePlan.{EnginePlan}
-use Rattle.plan.specs.declared.EnginePlan.TheVariants.{Unused, CodeOnly, CodeAndTable}
+use Rattle.plan.specs.declared.EnginePlan.TheVariants.{Unused}
 use Rattle.plan.specs.declared.Plan.{Plan}
-use Rattle.plan.specs.declared.Verdict.{Verdict}
-use Rattle.plan.specs.Ranges.{plan_at, InRange, InCode, InTable, addresses, code_addresses, table_addresses}
+use Rattle.plan.specs.declared.CheckError.{CheckError}
+use Rattle.plan.specs.Ranges.{plan_at, InRange, InSome, addresses, some_addresses}
 use Rattle.plan.specs.Check.{engine_numbers, joined}
 use Rattle.plan.specs.Theorems.{AllOf}
 use Rattle.plan.proofs.First.{First, single, in_left, in_right, either}
@@ -32,12 +34,12 @@ before_engine R u P p i b zero t = u
 before_engine R u P p i b (suc j) t = b (suc j) (omega arith) t
 
 -- a list of one each
-pub one_each : (g : ℕ → Verdict) (xs : List ℕ) → map g xs ≡ joined (λ x. g x ∷ []) xs
+pub one_each : (g : ℕ → CheckError) (xs : List ℕ) → map g xs ≡ joined (λ x. g x ∷ []) xs
 one_each g [] = refl
-one_each g (x ∷ xs) = ap (λ (vs : List Verdict). g x ∷ vs) (one_each g xs)
+one_each g (x ∷ xs) = ap (λ (vs : List CheckError). g x ∷ vs) (one_each g xs)
 
-module _ (F : Verdict → Type 0) (v : Verdict) where
-  module _ (g : ℕ → List Verdict) where
+module _ (F : CheckError → Type 0) (v : CheckError) where
+  module _ (g : ℕ → List CheckError) where
     -- n numbers from a upward: the number, and that all before it hold
     at_upward : (a n x : ℕ) → a ≤ x → x < a + n → ((y : ℕ) → a ≤ y → y < x → AllOf F (g y)) → First F v (g x) → First F v (joined g (upward a n))
     at_upward a zero x l u b h = absurd (omega arith)
@@ -72,27 +74,15 @@ module _ (F : Verdict → Type 0) (v : Verdict) where
         → First F v (joined g (addresses f l)) → A
     from_range f l c h = from_upward f.0 (l.0 + 1 - f.0) (λ x p q b k. c x (omega arith) (λ y r s. b y (omega arith) s) k) h
 
-    pub at_code : (q : EnginePlan) (x : ℕ) → InCode q x → ((y : ℕ) → InCode q y → y < x → AllOf F (g y)) → First F v (g x) → First F v (joined g (code_addresses q))
-    at_code Unused x i b h = absurd i
-    at_code (CodeOnly f l) x i b h = at_range f l x i b h
-    at_code (CodeAndTable f l t r) x i b h = at_range f l x i b h
+    pub at_some : (r : Option AddressRange) (x : ℕ) → InSome r x → ((y : ℕ) → InSome r y → y < x → AllOf F (g y)) → First F v (g x)
+        → First F v (joined g (some_addresses r))
+    at_some None x i b h = absurd i
+    at_some (Some r) x i b h = at_range r.first r.last x i b h
 
-    pub from_code : {A : Type 0} (q : EnginePlan) → ((x : ℕ) → InCode q x → ((y : ℕ) → InCode q y → y < x → AllOf F (g y)) → First F v (g x) → A)
-        → First F v (joined g (code_addresses q)) → A
-    from_code Unused c h = absurd h
-    from_code (CodeOnly f l) c h = from_range f l c h
-    from_code (CodeAndTable f l t r) c h = from_range f l c h
-
-    pub at_table : (q : EnginePlan) (x : ℕ) → InTable q x → ((y : ℕ) → InTable q y → y < x → AllOf F (g y)) → First F v (g x) → First F v (joined g (table_addresses q))
-    at_table Unused x i b h = absurd i
-    at_table (CodeOnly f l) x i b h = absurd i
-    at_table (CodeAndTable f l t r) x i b h = at_range t r x i b h
-
-    pub from_table : {A : Type 0} (q : EnginePlan) → ((x : ℕ) → InTable q x → ((y : ℕ) → InTable q y → y < x → AllOf F (g y)) → First F v (g x) → A)
-        → First F v (joined g (table_addresses q)) → A
-    from_table Unused c h = absurd h
-    from_table (CodeOnly f l) c h = absurd h
-    from_table (CodeAndTable f l t r) c h = from_range t r c h
+    pub from_some : {A : Type 0} (r : Option AddressRange) → ((x : ℕ) → InSome r x → ((y : ℕ) → InSome r y → y < x → AllOf F (g y)) → First F v (g x) → A)
+        → First F v (joined g (some_addresses r)) → A
+    from_some None c h = absurd h
+    from_some (Some r) c h = from_range r.first r.last c h
 
     -- the engines of a chip; an engine that it doesn't have is unused
     module _ (P : Profile) (p : Plan) where
@@ -102,14 +92,14 @@ module _ (F : Verdict → Type 0) (v : Verdict) where
       pub from_engine : {A : Type 0} → ((i : ℕ) → ((j : ℕ) → 1 ≤ j → j < i → AllOf F (g j)) → First F v (g i) → A) → First F v (joined g (engine_numbers P)) → A
       from_engine c h = from_upward 1 (engines_of P) (λ i s t b k. c i b k) h
 
--- one verdict for each engine, which says that R holds of its plan
-module _ (F : Verdict → Type 0) (g : ℕ → Verdict) (R : EnginePlan → Type 0) (unused : R Unused) (P : Profile) (p : Plan) (says : (i : ℕ) → F (g i) ↔ R (plan_at P p i)) where
+-- one refusal for each engine, which says that R holds of its plan
+module _ (F : CheckError → Type 0) (g : ℕ → CheckError) (R : EnginePlan → Type 0) (unused : R Unused) (P : Profile) (p : Plan) (says : (i : ℕ) → F (g i) ↔ R (plan_at P p i)) where
   pub at_each : (i : ℕ) → ((j : ℕ) → j < i → R (plan_at P p j)) → (R (plan_at P p i) → ⊥) → First F (g i) (map g (engine_numbers P))
   at_each i b n =
       subst (First F (g i)) (sym (one_each g (engine_numbers P)))
       (at_engine F (g i) (λ j. g j ∷ []) P p i (λ u. n (subst R (sym u) unused)) (λ j t. ((says j).1 (b j t), tt)) (inl (refl, λ h. n ((says i).0 h))))
 
-  pub from_each : {A : Type 0} (v : Verdict) → ((i : ℕ) → g i ≡ v → ((j : ℕ) → j < i → R (plan_at P p j)) → (R (plan_at P p i) → ⊥) → A)
+  pub from_each : {A : Type 0} (v : CheckError) → ((i : ℕ) → g i ≡ v → ((j : ℕ) → j < i → R (plan_at P p j)) → (R (plan_at P p i) → ⊥) → A)
       → First F v (map g (engine_numbers P)) → A
   from_each v c h =
       from_engine F v (λ j. g j ∷ []) P p

@@ -15,13 +15,15 @@ use Rattle.word.specs.declared.TableUse.{TableUse}
 use Rattle.word.specs.declared.TableUse.TheVariants.{Nothing, StartAt, EndAt, RowAt, Forward, Backward}
 use Rattle.word.specs.declared.Word.{Word}
 use Rattle.word.specs.declared.Word.TheVariants.{Rst, Ramp, Wait, Set, RampVar, SetVar, BranchVar, Jump, Arith, ArithVar, MuxAt, MuxClr, MuxSel, MuxMove, Branch, End, Int, Trigger, Undefined}
+use Rattle.std.proofs.Common.{Option, None, Some}
+use Rattle.plan.specs.declared.AddressRange.{AddressRange}
 use Rattle.plan.specs.declared.EnginePlan.{EnginePlan}
 use Rattle.plan.specs.declared.EnginePlan.TheVariants.{Unused, CodeOnly, CodeAndTable}
-use Rattle.plan.specs.declared.Verdict.TheVariants.{Accept, WrongLength, InvalidRange, CodeOverlapsTable, UndefinedWord, SuccessorOutside, TableMisused, TableNotOpened, ReservedRowBit}
-use Rattle.plan.specs.Ranges.{engine_plans, plan_at, InRange, InCode, first_of}
+use Rattle.plan.specs.declared.CheckError.TheVariants.{WrongLength, InvalidRange, CodeOverlapsTable, UndefinedWord, SuccessorOutside, TableMisused, TableNotOpened, ReservedRowBit}
+use Rattle.plan.specs.Ranges.{engine_plans, plan_at, code_of, table_of, InRange, InSome, InCode, first_of}
 use Rattle.word.specs.Decode.{word_at}
-use Rattle.plan.specs.Conditions.{ValidRange, ValidRanges, Disjoint, Defined, successors_of, AllIn, UseInside, NoUse, UsesOwnTable, is_start, is_end, OpensTable, reserved_bits}
-use Rattle.plan.specs.Tests.{valid_range, valid_ranges, overlap, code_overlaps, overlaps, overlaps_any, in_code, all_in, successors_inside, use_inside, no_use, uses_own_table, opens_table}
+use Rattle.plan.specs.Conditions.{ValidRange, ValidRanges, Disjoint, Defined, successors_of, AllIn, UseInside, NoUse, UsesTable, is_start, is_end, OpensTable, reserved_bits}
+use Rattle.plan.specs.Tests.{valid_range, valid_ranges, overlap, both_overlap, overlaps, overlaps_any, in_some, in_code, all_in, successors_inside, use_inside, no_use, uses_table, opens_table}
 use Rattle.plan.specs.Theorems.{RangeTest, CodeTest, SuccessorsTest, TestsExactly}
 
 abbrev pub Exactly : Bool → Type 0 → Type 0
@@ -66,9 +68,11 @@ pub range_test : RangeTest
 range_test f l a = restated (both (leb f.0 a) (leb a l.0) (at_most f.0 a) (at_most a l.0)) (λ h. omega arith) (λ h. omega arith)
 
 pub code_test : CodeTest
-code_test Unused a = never (λ h. h)
-code_test (CodeOnly f l) a = range_test f l a
-code_test (CodeAndTable f l t b) a = range_test f l a
+code_test q a = some_test (code_of q) a
+  where
+    some_test : (r : Option AddressRange) (a : ℕ) → Exactly (in_some r a) (InSome r a)
+    some_test None a = never (λ h. h)
+    some_test (Some r) a = range_test r.first r.last a
 
 -- 11
 range_exactly : (P : Profile) (a b : Address) → Exactly (valid_range P a b) (ValidRange P a b)
@@ -76,7 +80,7 @@ range_exactly P a b = both (leb a.0 b.0) (ltb b.0 (words_of P)) (at_most a.0 b.0
 
 valid_ranges_lem : (P : Profile) (q : EnginePlan) → Exactly (valid_ranges P q) (ValidRanges P q)
 valid_ranges_lem P Unused = always tt
-valid_ranges_lem P (CodeOnly f l) = range_exactly P f l
+valid_ranges_lem P (CodeOnly f l) = restated (both (valid_range P f l) true (range_exactly P f l) (always {A = Unit {0}} tt)) (λ h. h.0) (λ h. (h, tt))
 valid_ranges_lem P (CodeAndTable f l t b) = both (valid_range P f l) (valid_range P t b) (range_exactly P f l) (range_exactly P t b)
 
 -- 12
@@ -91,15 +95,13 @@ ranges_disjoint f l t b =
     overlap_exactly =
         both (leb f.0 l.0) _ (at_most f.0 l.0) (both (leb t.0 b.0) _ (at_most t.0 b.0) (both (leb f.0 b.0) (leb t.0 l.0) (at_most f.0 b.0) (at_most t.0 l.0)))
 
-code_disjoint : (q : EnginePlan) (t b : Address) → Exactly (not (code_overlaps q t b)) ((a : ℕ) → InCode q a → InRange t b a → ⊥)
-code_disjoint Unused t b = always (λ a c d. c)
-code_disjoint (CodeOnly f l) t b = ranges_disjoint f l t b
-code_disjoint (CodeAndTable f l t' b') t b = ranges_disjoint f l t b
+both_disjoint : (r s : Option AddressRange) → Exactly (not (both_overlap r s)) ((a : ℕ) → InSome r a → InSome s a → ⊥)
+both_disjoint None s = always (λ a c d. c)
+both_disjoint (Some r) None = always (λ a c d. d)
+both_disjoint (Some r) (Some s) = ranges_disjoint r.first r.last s.first s.last
 
 plan_disjoint : (q r : EnginePlan) → Exactly (not (overlaps q r)) (Disjoint q r)
-plan_disjoint q Unused = always (λ a c d. d)
-plan_disjoint q (CodeOnly f l) = always (λ a c d. d)
-plan_disjoint q (CodeAndTable f l t b) = code_disjoint q t b
+plan_disjoint q r = both_disjoint (code_of q) (table_of r)
 
 at_each : (q r : EnginePlan) (rs : List EnginePlan) → Disjoint q r × ((i : ℕ) → Disjoint q (get_or rs i Unused)) → (i : ℕ) → Disjoint q (get_or (r ∷ rs) i Unused)
 at_each q r rs h zero = h.0
@@ -164,10 +166,9 @@ use_inside_lem t b (RowAt a) = range_test t b a.0
 use_inside_lem t b Forward = always tt
 use_inside_lem t b Backward = always tt
 
-uses_own_table_lem : (q : EnginePlan) (u : TableUse) → Exactly (uses_own_table q u) (UsesOwnTable q u)
-uses_own_table_lem Unused u = no_use_lem u
-uses_own_table_lem (CodeOnly f l) u = no_use_lem u
-uses_own_table_lem (CodeAndTable f l t b) u = use_inside_lem t b u
+uses_table_lem : (r : Option AddressRange) (u : TableUse) → Exactly (uses_table r u) (UsesTable r u)
+uses_table_lem None u = no_use_lem u
+uses_table_lem (Some r) u = use_inside_lem r.first r.last u
 
 -- 16
 opens_table_lem : (P : Profile) (image : List ℕ) (q : EnginePlan) → Exactly (opens_table P image q) (OpensTable P image q)
@@ -178,12 +179,11 @@ opens_table_lem P image (CodeAndTable f l t b) =
     (below f.0 l.0) (λ e. e, λ e. e) (λ e. e, λ e. e)
 
 pub tests_exactly : TestsExactly
-tests_exactly P p image Accept = always tt
 tests_exactly P p image WrongLength = same (length image) (words_of P)
 tests_exactly P p image (InvalidRange i) = valid_ranges_lem P (plan_at P p i)
 tests_exactly P p image (CodeOverlapsTable i) = disjoint_from_all (plan_at P p i) (engine_plans P p)
 tests_exactly P p image (UndefinedWord i a) = defined (word_at P image a.0)
 tests_exactly P p image (SuccessorOutside i a) = successors_test (plan_at P p i) a.0 (word_at P image a.0)
-tests_exactly P p image (TableMisused i a) = uses_own_table_lem (plan_at P p i) (table_use_of (word_at P image a.0))
+tests_exactly P p image (TableMisused i a) = uses_table_lem (table_of (plan_at P p i)) (table_use_of (word_at P image a.0))
 tests_exactly P p image (TableNotOpened i a) = opens_table_lem P image (plan_at P p i)
 tests_exactly P p image (ReservedRowBit i a) = same (reserved_bits P (get_or image a.0 0)) 0

@@ -1,6 +1,6 @@
 -- The conditions that a plan and an image have to meet ("Listed conditions: 96 words, no case of 11 to 17"), as plain statements. Each
 -- says that its number of refusal is not given.
-use Rattle.std.specs.Prelude.{ℕ, zero, suc, ◌+◌, ◌-◌, ◌≤◌, ◌<◌, Bool, true, false, List, [], ◌∷◌, ◌≡◌, length, get_or}
+use Rattle.std.specs.Prelude.{ℕ, zero, suc, ◌+◌, ◌-◌, ◌≤◌, ◌<◌, Bool, true, false, List, [], ◌∷◌, ◌≡◌, length, get_or, Option, None, Some}
 use Rattle.std.specs.Int.Bits.{bit_and}
 use Rattle.word.specs.Profile.{Profile, words_of, output_bits}
 use Rattle.word.specs.Decode.{word_at}
@@ -12,12 +12,13 @@ use Rattle.word.specs.declared.TableUse.{TableUse}
 use Rattle.word.specs.declared.TableUse.TheVariants.{Nothing, StartAt, EndAt, RowAt, Forward, Backward}
 use Rattle.word.specs.declared.Word.{Word}
 use Rattle.word.specs.declared.Word.TheVariants.{Undefined}
+use Rattle.plan.specs.declared.AddressRange.{AddressRange}
 use Rattle.plan.specs.declared.EnginePlan.{EnginePlan}
 use Rattle.plan.specs.declared.EnginePlan.TheVariants.{Unused, CodeOnly, CodeAndTable}
 use Rattle.plan.specs.declared.Plan.{Plan}
-use Rattle.plan.specs.declared.Verdict.{Verdict}
-use Rattle.plan.specs.declared.Verdict.TheVariants.{Accept, WrongLength, InvalidRange, CodeOverlapsTable, UndefinedWord, SuccessorOutside, TableMisused, TableNotOpened, ReservedRowBit}
-use Rattle.plan.specs.Ranges.{plan_at, InCode, InTable, first_of}
+use Rattle.plan.specs.declared.CheckError.{CheckError}
+use Rattle.plan.specs.declared.CheckError.TheVariants.{WrongLength, InvalidRange, CodeOverlapsTable, UndefinedWord, SuccessorOutside, TableMisused, TableNotOpened, ReservedRowBit}
+use Rattle.plan.specs.Ranges.{plan_at, table_of, InCode, InTable, first_of}
 
 -- 9: the image has as many words as the chip.
 abbrev pub Complete : Profile → List ℕ → Type 0
@@ -84,10 +85,12 @@ NoUse (RowAt a) = ⊥
 NoUse Forward = ⊥
 NoUse Backward = ⊥
 
+abbrev pub UsesTable : Option AddressRange → TableUse → Type 0
+UsesTable None u = NoUse u
+UsesTable (Some r) u = UseInside r.first r.last u
+
 abbrev pub UsesOwnTable : EnginePlan → TableUse → Type 0
-UsesOwnTable Unused u = NoUse u
-UsesOwnTable (CodeOnly f l) u = NoUse u
-UsesOwnTable (CodeAndTable f l t b) u = UseInside t b u
+UsesOwnTable q u = UsesTable (table_of q) u
 
 -- 16: with a table, the range begins with map-start or ld-start, then ld-end, both inside it.
 abbrev pub is_start : TableUse → Bool
@@ -131,9 +134,8 @@ pub record Accepted (P : Profile) (p : Plan) (image : List ℕ) : Type 0 where
   pub opens_table : (i : ℕ) → OpensTable P image (plan_at P p i)
   pub rows_clear : (i a : ℕ) → InTable (plan_at P p i) a → RowClear P (get_or image a 0)
 
--- The condition that a verdict says is not met, at its engine and address.
-abbrev pub Condition : Profile → Plan → List ℕ → Verdict → Type 0
-Condition P p image Accept = Unit {0}
+-- The condition that a refusal says is not met, at its engine and address.
+abbrev pub Condition : Profile → Plan → List ℕ → CheckError → Type 0
 Condition P p image WrongLength = Complete P image
 Condition P p image (InvalidRange i) = ValidRanges P (plan_at P p i)
 Condition P p image (CodeOverlapsTable i) = CodeDisjoint P p (plan_at P p i)

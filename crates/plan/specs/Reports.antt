@@ -1,14 +1,14 @@
 -- When each report is given ("Numbers of refusal", "Given exactly when"): its condition is not met at its engine and address, and all that
 -- is looked at before it is met. The order is document 01's: "Conditions are looked at in number order 11, 12 over the whole plan, then
 -- engine by engine, word by word upward 13, 14, 15, then 16 for that engine's first two words, then 17 for its rows"; 9 is judged first.
-use Rattle.std.specs.Prelude.{ℕ, ◌<◌, List, ◌≡◌, get_or}
+use Rattle.std.specs.Prelude.{ℕ, ◌<◌, List, ◌≡◌, get_or, Ok, Err}
 use Rattle.word.specs.Profile.{Profile}
 use Rattle.word.specs.Classes.{table_use_of}
 use Rattle.word.specs.Decode.{word_at}
 use Rattle.plan.specs.declared.EnginePlan.{EnginePlan}
 use Rattle.plan.specs.declared.Plan.{Plan}
-use Rattle.plan.specs.declared.Verdict.{Verdict}
-use Rattle.plan.specs.declared.Verdict.TheVariants.{Accept, WrongLength, InvalidRange, CodeOverlapsTable, UndefinedWord, SuccessorOutside, TableMisused, TableNotOpened, ReservedRowBit}
+use Rattle.plan.specs.declared.CheckError.TheVariants.{WrongLength, InvalidRange, CodeOverlapsTable, UndefinedWord, SuccessorOutside, TableMisused, TableNotOpened, ReservedRowBit}
+use Rattle.plan.specs.Verdict.{Verdict}
 use Rattle.plan.specs.Ranges.{plan_at, first_of, InCode, InTable}
 use Rattle.plan.specs.Conditions.{Complete, ValidRanges, CodeDisjoint, Defined, SuccessorsInside, UsesOwnTable, OpensTable, RowClear, Accepted}
 
@@ -63,38 +63,38 @@ pub record BeforeWord (P : Profile) (p : Plan) (image : List ℕ) (i a : ℕ) : 
 -- When each number is given, with its engine and address.
 abbrev pub Reported : Profile → Plan → List ℕ → Verdict → Type 0
 -- 0
-Reported P p image Accept = Accepted P p image
+Reported P p image (Ok x) = Accepted P p image
 -- 9
-Reported P p image WrongLength = Complete P image → ⊥
+Reported P p image (Err WrongLength) = Complete P image → ⊥
 -- 11: the lowest engine that fails
-Reported P p image (InvalidRange i) = Complete P image × ValidBefore P p i × (ValidRanges P (plan_at P p i) → ⊥)
+Reported P p image (Err (InvalidRange i)) = Complete P image × ValidBefore P p i × (ValidRanges P (plan_at P p i) → ⊥)
 -- 12: the lowest engine whose code meets any table
-Reported P p image (CodeOverlapsTable i) = Complete P image × AllValid P p × DisjointBefore P p i × (CodeDisjoint P p (plan_at P p i) → ⊥)
+Reported P p image (Err (CodeOverlapsTable i)) = Complete P image × AllValid P p × DisjointBefore P p i × (CodeDisjoint P p (plan_at P p i) → ⊥)
 -- 13, 14 and 15: at a code address
-Reported P p image (UndefinedWord i a) =
+Reported P p image (Err (UndefinedWord i a)) =
     InCode (plan_at P p i) a.0 × BeforeWord P p image i a.0 × (Defined (word_at P image a.0) → ⊥)
-Reported P p image (SuccessorOutside i a) =
+Reported P p image (Err (SuccessorOutside i a)) =
     InCode (plan_at P p i) a.0 × BeforeWord P p image i a.0 × Defined (word_at P image a.0) ×
     (SuccessorsInside (plan_at P p i) a.0 (word_at P image a.0) → ⊥)
-Reported P p image (TableMisused i a) =
+Reported P p image (Err (TableMisused i a)) =
     InCode (plan_at P p i) a.0 × BeforeWord P p image i a.0 × Defined (word_at P image a.0) ×
     SuccessorsInside (plan_at P p i) a.0 (word_at P image a.0) × (UsesOwnTable (plan_at P p i) (table_use_of (word_at P image a.0)) → ⊥)
 -- 16: at the first code address
-Reported P p image (TableNotOpened i a) =
+Reported P p image (Err (TableNotOpened i a)) =
     (a.0 ≡ first_of (plan_at P p i)) × BeforeEngine P p image i × WordsMet P image (plan_at P p i) × (OpensTable P image (plan_at P p i) → ⊥)
 -- 17: at a row
-Reported P p image (ReservedRowBit i a) =
+Reported P p image (Err (ReservedRowBit i a)) =
     InTable (plan_at P p i) a.0 × BeforeEngine P p image i × WordsMet P image (plan_at P p i) × OpensTable P image (plan_at P p i) ×
     RowsClearBefore P image (plan_at P p i) a.0 × (RowClear P (get_or image a.0 0) → ⊥)
 
 -- The same of a plan alone: 11 and 12, and nothing else.
 abbrev pub RangesReported : Profile → Plan → Verdict → Type 0
-RangesReported P p Accept = AllValid P p × AllDisjoint P p
-RangesReported P p WrongLength = ⊥
-RangesReported P p (InvalidRange i) = ValidBefore P p i × (ValidRanges P (plan_at P p i) → ⊥)
-RangesReported P p (CodeOverlapsTable i) = AllValid P p × DisjointBefore P p i × (CodeDisjoint P p (plan_at P p i) → ⊥)
-RangesReported P p (UndefinedWord i a) = ⊥
-RangesReported P p (SuccessorOutside i a) = ⊥
-RangesReported P p (TableMisused i a) = ⊥
-RangesReported P p (TableNotOpened i a) = ⊥
-RangesReported P p (ReservedRowBit i a) = ⊥
+RangesReported P p (Ok x) = AllValid P p × AllDisjoint P p
+RangesReported P p (Err WrongLength) = ⊥
+RangesReported P p (Err (InvalidRange i)) = ValidBefore P p i × (ValidRanges P (plan_at P p i) → ⊥)
+RangesReported P p (Err (CodeOverlapsTable i)) = AllValid P p × DisjointBefore P p i × (CodeDisjoint P p (plan_at P p i) → ⊥)
+RangesReported P p (Err (UndefinedWord i a)) = ⊥
+RangesReported P p (Err (SuccessorOutside i a)) = ⊥
+RangesReported P p (Err (TableMisused i a)) = ⊥
+RangesReported P p (Err (TableNotOpened i a)) = ⊥
+RangesReported P p (Err (ReservedRowBit i a)) = ⊥

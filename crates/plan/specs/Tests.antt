@@ -1,18 +1,19 @@
 -- Each condition as a test, for the checker's definition. `TestsExactly` in specs/Theorems.antt states that a test is true exactly where
 -- its condition holds.
-use Rattle.std.specs.Prelude.{ℕ, ◌+◌, Bool, true, false, not, ◌&&◌, ◌||◌, List, [], ◌∷◌, length, get_or, leb, ltb, eqb}
+use Rattle.std.specs.Prelude.{ℕ, ◌+◌, Bool, true, false, not, ◌&&◌, ◌||◌, List, [], ◌∷◌, length, get_or, leb, ltb, eqb, Option, None, Some}
 use Rattle.word.specs.Profile.{Profile, words_of}
 use Rattle.word.specs.Classes.{flow_of, table_use_of, is_undefined}
 use Rattle.word.specs.declared.Address.{Address}
 use Rattle.word.specs.declared.Flow.{Flow}
 use Rattle.word.specs.declared.TableUse.{TableUse}
 use Rattle.word.specs.declared.TableUse.TheVariants.{Nothing, StartAt, EndAt, RowAt, Forward, Backward}
+use Rattle.plan.specs.declared.AddressRange.{AddressRange}
 use Rattle.plan.specs.declared.EnginePlan.{EnginePlan}
 use Rattle.plan.specs.declared.EnginePlan.TheVariants.{Unused, CodeOnly, CodeAndTable}
 use Rattle.plan.specs.declared.Plan.{Plan}
-use Rattle.plan.specs.declared.Verdict.{Verdict}
-use Rattle.plan.specs.declared.Verdict.TheVariants.{Accept, WrongLength, InvalidRange, CodeOverlapsTable, UndefinedWord, SuccessorOutside, TableMisused, TableNotOpened, ReservedRowBit}
-use Rattle.plan.specs.Ranges.{engine_plans, plan_at, first_of}
+use Rattle.plan.specs.declared.CheckError.{CheckError}
+use Rattle.plan.specs.declared.CheckError.TheVariants.{WrongLength, InvalidRange, CodeOverlapsTable, UndefinedWord, SuccessorOutside, TableMisused, TableNotOpened, ReservedRowBit}
+use Rattle.plan.specs.Ranges.{engine_plans, plan_at, first_of, code_of, table_of}
 use Rattle.word.specs.Decode.{word_at}
 use Rattle.plan.specs.Conditions.{successors_of, is_start, is_end, reserved_bits}
 
@@ -20,24 +21,24 @@ use Rattle.plan.specs.Conditions.{successors_of, is_start, is_end, reserved_bits
 abbrev pub valid_range : Profile → Address → Address → Bool
 valid_range P a b = leb a.0 b.0 && ltb b.0 (words_of P)
 
+abbrev pub valid_some : Profile → Option AddressRange → Bool
+valid_some P None = true
+valid_some P (Some r) = valid_range P r.first r.last
+
 abbrev pub valid_ranges : Profile → EnginePlan → Bool
-valid_ranges P Unused = true
-valid_ranges P (CodeOnly f l) = valid_range P f l
-valid_ranges P (CodeAndTable f l t b) = valid_range P f l && valid_range P t b
+valid_ranges P q = valid_some P (code_of q) && valid_some P (table_of q)
 
 -- 12: both ranges have addresses, and neither lies beyond the other.
 abbrev pub overlap : Address → Address → Address → Address → Bool
 overlap f l t b = leb f.0 l.0 && (leb t.0 b.0 && (leb f.0 b.0 && leb t.0 l.0))
 
-abbrev pub code_overlaps : EnginePlan → Address → Address → Bool
-code_overlaps Unused t b = false
-code_overlaps (CodeOnly f l) t b = overlap f l t b
-code_overlaps (CodeAndTable f l t' b') t b = overlap f l t b
+abbrev pub both_overlap : Option AddressRange → Option AddressRange → Bool
+both_overlap None s = false
+both_overlap (Some r) None = false
+both_overlap (Some r) (Some s) = overlap r.first r.last s.first s.last
 
 abbrev pub overlaps : EnginePlan → EnginePlan → Bool
-overlaps q Unused = false
-overlaps q (CodeOnly f l) = false
-overlaps q (CodeAndTable f l t b) = code_overlaps q t b
+overlaps q r = both_overlap (code_of q) (table_of r)
 
 abbrev pub overlaps_any : EnginePlan → List EnginePlan → Bool
 overlaps_any q [] = false
@@ -47,10 +48,12 @@ overlaps_any q (r ∷ rs) = overlaps q r || overlaps_any q rs
 abbrev pub in_range : Address → Address → ℕ → Bool
 in_range f l a = leb f.0 a && leb a l.0
 
+abbrev pub in_some : Option AddressRange → ℕ → Bool
+in_some None a = false
+in_some (Some r) a = in_range r.first r.last a
+
 abbrev pub in_code : EnginePlan → ℕ → Bool
-in_code Unused a = false
-in_code (CodeOnly f l) a = in_range f l a
-in_code (CodeAndTable f l t b) a = in_range f l a
+in_code q a = in_some (code_of q) a
 
 abbrev pub all_in : (ℕ → Bool) → List ℕ → Bool
 all_in f [] = true
@@ -76,10 +79,12 @@ no_use (RowAt a) = false
 no_use Forward = false
 no_use Backward = false
 
+abbrev pub uses_table : Option AddressRange → TableUse → Bool
+uses_table None u = no_use u
+uses_table (Some r) u = use_inside r.first r.last u
+
 abbrev pub uses_own_table : EnginePlan → TableUse → Bool
-uses_own_table Unused u = no_use u
-uses_own_table (CodeOnly f l) u = no_use u
-uses_own_table (CodeAndTable f l t b) u = use_inside t b u
+uses_own_table q u = uses_table (table_of q) u
 
 -- 16
 abbrev pub opens_table : Profile → List ℕ → EnginePlan → Bool
@@ -92,9 +97,8 @@ opens_table P image (CodeAndTable f l t b) =
 abbrev pub row_clear : Profile → ℕ → Bool
 row_clear P row = eqb (reserved_bits P row) 0
 
--- Whether the condition holds that a verdict says is not met.
-abbrev pub holds : Profile → Plan → List ℕ → Verdict → Bool
-holds P p image Accept = true
+-- Whether the condition holds that a refusal says is not met.
+abbrev pub holds : Profile → Plan → List ℕ → CheckError → Bool
 holds P p image WrongLength = eqb (length image) (words_of P)
 holds P p image (InvalidRange i) = valid_ranges P (plan_at P p i)
 holds P p image (CodeOverlapsTable i) = not (overlaps_any (plan_at P p i) (engine_plans P p))

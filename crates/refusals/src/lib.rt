@@ -7,7 +7,7 @@ mod reading;
 mod verdicts;
 mod writing;
 
-pub use calls::number_of;
+pub use calls::{error_number_of, number_of};
 pub use op_line::{op_line_number_of, written_line_number_of};
 pub use reading::line_report_of;
 pub use verdicts::report_of;

@@ -2,7 +2,9 @@
 ghost use Rattle.std.specs.Prelude.{◌≡◌};
 ghost use Rattle.asm.specs.Answers.{line_report_of};
 
-use asm::{Assembled, LineReport};
+use crate::op_line::line_error_number;
+use asm::{AssembleError, LineReport};
+use plan::Plan;
 
 fn reported(number: u16, line: u16) -> LineReport
     ensures { result ≡ record { number = number; line = line } }
@@ -10,17 +12,15 @@ fn reported(number: u16, line: u16) -> LineReport
     LineReport { number, line }
 }
 
-pub fn line_report_of(read: Assembled) -> LineReport
+pub fn line_report_of(read: Result<Plan, AssembleError>) -> LineReport
     ensures { result ≡ line_report_of read }
 {
     match read {
-        Assembled::Program(_) => reported(0, 0),
-        Assembled::WrongLength => reported(9, 0),
-        Assembled::Malformed { line } => reported(20, line),
-        Assembled::UnknownOp { line } => reported(21, line),
-        Assembled::OutsideField { line } => reported(22, line),
-        Assembled::WrongLineCount => reported(23, 0),
-        Assembled::InvalidRange => reported(11, 0),
-        Assembled::CodeOverlapsTable => reported(12, 0),
+        Ok(_) => reported(0, 0),
+        Err(AssembleError::WrongLength) => reported(9, 0),
+        Err(AssembleError::Line { line, error }) => reported(line_error_number(error), line),
+        Err(AssembleError::WrongLineCount) => reported(23, 0),
+        Err(AssembleError::InvalidRange) => reported(11, 0),
+        Err(AssembleError::CodeOverlapsTable) => reported(12, 0),
     }
 }

@@ -1,5 +1,5 @@
-pub mod Turns
 pub mod Splits
+pub mod Words
 pub mod Places
 pub mod Values
 pub mod Numbers

@@ -2,16 +2,16 @@
 use Prim.Native.Nat.{ℕ, zero, suc, ◌+◌, ◌-◌, ◌*◌, ◌/◌, ◌%◌, ◌^◌, ◌≤◌, ◌<◌}
 use mathlib.Core.Bool.{Bool, true, false, not, cond, ◌&&◌, and-eq-true_iff, false≢true}
 use mathlib.Core.List.{List, [], ◌∷◌, ◌++◌, append_assoc, append-nil}
-use mathlib.Core.Logic.{inr}
 use mathlib.Core.Path.{◌≡◌, refl, sym, ap, ◌∙◌}
 use native.Mathlib.Omega.{arith}
+use Rattle.std.proofs.Common.{Ok, Err}
 use borrow.Author.Tests.{ne_eqb, le-leb, lt-ltb, le-ltb, ltb-true, ltb-false, leb-true, eqb-false, not-true}
 use lib.Dec.{eqb, leb, ltb}
 use lib.ListN.{length, get_or}
 use Rattle.laws.proofs.Tests.{by_test}
 use Rattle.text.specs.Bytes.{lacks}
 use Rattle.text.specs.Number.{is_digit, all_digits, number_from, number_of, is_number, read_number, digits, decimal_of}
-use Rattle.text.specs.declared.Decimal.TheVariants.{Number, Malformed, Outside}
+use Rattle.text.specs.declared.ValueError.TheVariants.{Malformed, Outside}
 use Rattle.text.proofs.Numbers.{number_digits}
 
 -- ---- the digits of a number, one by one
@@ -127,7 +127,7 @@ decimal_is n h =
     (λ e.
     let l = ltb-false n 10 e in
     let f = digits_front 10 n (omega arith) (omega arith) in
-    number_digits (decimal_of n) (decimal_filled n) (inr (λ z. omega arith)) ∙ decimal_digits n)
+    number_digits (decimal_of n) (decimal_filled n) (λ m z. omega arith) ∙ decimal_digits n)
 
 -- ---- what is read is written as it was
 
@@ -169,14 +169,14 @@ decimal_again (b ∷ c ∷ s) f l =
     ∙ ap (λ (t : List ℕ). t ++ (c ∷ s)) (decimal_one (0 * 10 + (b - 48)) (omega arith) ∙ ap (λ (k : ℕ). k ∷ []) e)
 
 -- what a text is that is read as a number
-pub read_parts_lem : (most n : ℕ) (s : List ℕ) → read_number most s ≡ Number n → (is_number s ≡ true) × (number_of s ≡ n) × (n ≤ most)
+pub read_parts_lem : (most n : ℕ) (s : List ℕ) → read_number most s ≡ Ok n → (is_number s ≡ true) × (number_of s ≡ n) × (n ≤ most)
 unfolding read_number
 read_parts_lem most n s e = go (is_number s) (leb (number_of s) most) refl e
   where
     none : ◌≡◌ {A = ℕ} 0 1 → ⊥
     none z = omega arith
 
-    go : (t u : Bool) → leb (number_of s) most ≡ u → cond t (cond u (Number (number_of s)) Outside) Malformed ≡ Number n → (t ≡ true) × (number_of s ≡ n) × (n ≤ most)
+    go : (t u : Bool) → leb (number_of s) most ≡ u → cond t (cond u (Ok (number_of s)) (Err Outside)) (Err Malformed) ≡ Ok n → (t ≡ true) × (number_of s ≡ n) × (n ≤ most)
     go true true l q =
         let k : number_of s ≡ n = cc in
         let h = leb-true (number_of s) most l in

@@ -1,7 +1,7 @@
 -- Writing one text after another is writing both together.
 use Prim.Native.Nat.{ℕ, suc, ◌+◌, ◌≤◌, min}
-use mathlib.Core.List.{List, [], ◌∷◌, ◌++◌, append_assoc, append-nil}
-use mathlib.Core.Path.{◌≡◌, refl, sym, ap, subst, ◌∙◌}
+use mathlib.Core.List.{List, [], ◌∷◌, ◌++◌}
+use mathlib.Core.Path.{◌≡◌, refl, sym, ap, ◌∙◌}
 use native.Mathlib.Omega.{arith}
 use native.Mathlib.Nat.{add-zero}
 use borrow.Author.Tests.{leb-true, leb-false}
@@ -34,8 +34,8 @@ sets_held s d n h =
     let l = leb-false n last_place e in
     sets_out s d (min n last_place) (omega arith) ∙ sym (sets_out s d n (omega arith)))
 
-pub put_nil : (d : List ℕ) (at : ℕ) → at ≤ last_place → Put d d [] at at
-put_nil d at h = record { place = omega arith; bytes = refl }
+pub put_nil : (d : List ℕ) {at : ℕ} → at ≤ last_place → Put d d [] at at
+put_nil d h = record { place = omega arith; bytes = refl }
 
 -- no memory has more than last_place bytes
 pub put_append : {a b c s t : List ℕ} {at m n : ℕ} → length a ≤ last_place → Put a b s at m → Put b c t m n → Put a c (s ++ t) at n
@@ -49,10 +49,6 @@ put_append {a} {b} {c} {s} {t} {at} {m} {n} room p q = record {
       ∙ sym (sets_append s t a at);
 }
 
--- an equal text is written alike
-pub put_is : {a b s t : List ℕ} {at n : ℕ} → s ≡ t → Put a b s at n → Put a b t at n
-put_is {a} {b} {s} {t} {at} {n} e p = subst (λ (x : List ℕ). Put a b x at n) e p
-
 pub put_length : {a b s : List ℕ} {at m : ℕ} → Put a b s at m → length b ≡ length a
 put_length {a} {b} {s} {at} {m} p = ap length p.bytes ∙ length-sets a at s
 
@@ -61,26 +57,3 @@ pub put_front : {a b s : List ℕ} {n : ℕ} → Put a b s 0 n → length s ≤ 
 put_front {a} {b} {s} p h =
     let z : 0 + length s ≡ length s = omega arith in
     p.bytes ∙ sets-eq s a 0 (omega arith) ∙ ap (λ (k : ℕ). s ++ drop k a) z
-
--- ---- a text that is written part by part
-
--- Of the text whole, all but rest is written from `at` up to next.
-pub record SoFar (before after whole rest : List ℕ) (at next : ℕ) : Type 0 where
-  pub room : length before ≤ last_place
-  pub done : List ℕ
-  pub put : Put before after done at next
-  pub is : whole ≡ done ++ rest
-
-pub so_far_none : (a whole : List ℕ) (at : ℕ) → length a ≤ last_place → at ≤ last_place → SoFar a a whole whole at at
-so_far_none a whole at room h = record { room = room; done = []; put = put_nil a at h; is = refl }
-
-pub so_far_more : {a b c whole : List ℕ} {at m n : ℕ} (p rest : List ℕ) → SoFar a b whole (p ++ rest) at m → Put b c p m n → SoFar a c whole rest at n
-so_far_more p rest s q = record {
-  room = s.room;
-  done = s.done ++ p;
-  put = put_append s.room s.put q;
-  is = s.is ∙ sym (append_assoc s.done p rest);
-}
-
-pub so_far_all : {a b whole : List ℕ} {at next : ℕ} → SoFar a b whole [] at next → Put a b whole at next
-so_far_all s = put_is (sym (s.is ∙ append-nil s.done)) s.put

@@ -7,8 +7,8 @@ use native.Mathlib.Omega.{arith}
 use borrow.Author.Tests.{eq-eqb, ne_eqb, eqb-true, lt-ltb, le-ltb}
 use lib.Dec.{eqb, ltb}
 use lib.ListN.{length, drop, drop_of_length-le}
-use Rattle.text.specs.Bytes.{same, lacks, index_of, value_of, is_keyword, is_pair}
-use Rattle.text.proofs.Splits.{lacks_index, lacks_append}
+use Rattle.text.specs.Bytes.{equals_sign, same, lacks, index_of, value_of, is_keyword, is_pair}
+use Rattle.text.proofs.Splits.{lacks_append}
 
 -- ---- equal texts
 
@@ -51,10 +51,10 @@ unfolding is_keyword
 keyword_empty [] h = refl
 keyword_empty (x ∷ v) h = absurd (omega arith)
 
-pub keyword_index : (v : List ℕ) → (length v ≡ 0 → ⊥) → eqb (index_of 61 v) (length v) ≡ is_keyword v
+pub keyword_lacks : (v : List ℕ) → (length v ≡ 0 → ⊥) → lacks equals_sign v ≡ is_keyword v
 unfolding is_keyword
-keyword_index [] h = absurd (h refl)
-keyword_index (x ∷ v) h = lacks_index 61 (x ∷ v)
+keyword_lacks [] h = absurd (h refl)
+keyword_lacks (x ∷ v) h = refl
 
 -- ---- pairs
 

@@ -1,9 +1,9 @@
 -- Cases of parts, pairs and numbers, each by computation.
-use Rattle.std.specs.Prelude.{ℕ, ◌+◌, true, false, [], ◌∷◌, map, ◌≡◌}
+use Rattle.std.specs.Prelude.{ℕ, ◌+◌, true, false, [], ◌∷◌, map, ◌≡◌, Ok, Err}
 use Rattle.text.specs.Bytes.{ascii, line_feed, space, equals_sign, same, lacks, index_of, split, join, part_at, value_of, is_keyword, is_pair}
 use Rattle.text.specs.Number.{is_number, number_of, read_number, decimal_of}
 use Rattle.text.specs.Put.{last_place}
-use Rattle.text.specs.declared.Decimal.TheVariants.{Number, Malformed, Outside}
+use Rattle.text.specs.declared.ValueError.TheVariants.{Malformed, Outside}
 
 -- The bytes with a meaning of their own, by ASCII's table. No place is above 2^64 - 1.
 abbrev pub Constants : Type 0
@@ -37,7 +37,7 @@ Numbers =
     (map is_number (ascii "0" ∷ ascii "9" ∷ ascii "10" ∷ ascii "65535" ∷ []) ≡ true ∷ true ∷ true ∷ true ∷ [])
     × (map is_number ([] ∷ ascii "00" ∷ ascii "01" ∷ ascii "/" ∷ ascii ":" ∷ ascii "1/" ∷ ascii "1:2" ∷ ascii "a1" ∷ []) ≡ false ∷ false ∷ false ∷ false ∷ false ∷ false ∷ false ∷ false ∷ [])
     × (map number_of (ascii "0" ∷ ascii "305" ∷ ascii "4294967296" ∷ []) ≡ 0 ∷ 305 ∷ 4294967296 ∷ [])
-    × (map (read_number 65535) (ascii "65535" ∷ ascii "65536" ∷ ascii "065" ∷ []) ≡ Number 65535 ∷ Outside ∷ Malformed ∷ [])
+    × (map (read_number 65535) (ascii "65535" ∷ ascii "65536" ∷ ascii "065" ∷ []) ≡ Ok 65535 ∷ Err Outside ∷ Err Malformed ∷ [])
     × (map decimal_of (0 ∷ 9 ∷ 10 ∷ 305 ∷ 9999999999 ∷ []) ≡ ascii "0" ∷ ascii "9" ∷ ascii "10" ∷ ascii "305" ∷ ascii "9999999999" ∷ [])
 
 pub record Cases : Type 0 where

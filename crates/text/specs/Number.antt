@@ -1,7 +1,7 @@
 -- Decimal numbers, without leading zeros and of any length (document 01, "The sheet"; "A non-digit or leading zero in a number is 20").
-use Rattle.std.specs.Prelude.{ℕ, zero, suc, ◌+◌, ◌-◌, ◌*◌, ◌/◌, ◌%◌, Bool, true, false, not, cond, ◌&&◌, List, [], ◌∷◌, ◌++◌, eqb, leb, ltb}
-use Rattle.text.specs.declared.Decimal.{Decimal}
-use Rattle.text.specs.declared.Decimal.TheVariants.{Number, Malformed, Outside}
+use Rattle.std.specs.Prelude.{ℕ, zero, suc, ◌+◌, ◌-◌, ◌*◌, ◌/◌, ◌%◌, Bool, true, false, not, cond, ◌&&◌, List, [], ◌∷◌, ◌++◌, Result, Ok, Err, eqb, leb, ltb}
+use Rattle.text.specs.declared.ValueError.{ValueError}
+use Rattle.text.specs.declared.ValueError.TheVariants.{Malformed, Outside}
 
 -- The digits are the bytes 48 to 57.
 unfoldable pub is_digit : ℕ → Bool
@@ -28,8 +28,8 @@ is_number (b ∷ []) = is_digit b
 is_number (b ∷ c ∷ s) = not (eqb b 48) && all_digits (b ∷ c ∷ s)
 
 -- What reading a text as a number of at most `most` answers. It is never shortened: it is its text's value, or outside.
-unfoldable pub read_number : ℕ → List ℕ → Decimal
-read_number most s = cond (is_number s) (cond (leb (number_of s) most) (Number (number_of s)) Outside) Malformed
+unfoldable pub read_number : ℕ → List ℕ → Result ℕ ValueError
+read_number most s = cond (is_number s) (cond (leb (number_of s) most) (Ok (number_of s)) (Err Outside)) (Err Malformed)
 
 -- The digits of n, where k digits are enough for it.
 unfoldable pub digits : ℕ → ℕ → List ℕ

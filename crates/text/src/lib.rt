@@ -9,12 +9,11 @@ pub const SPACE: u8 = b' ';
 
 pub const EQUALS_SIGN: u8 = b'=';
 
-// What reading a decimal number answers.
-#[derive(Clone, Copy)]
-pub enum Decimal {
-    Number(u32),
-    // no number: a byte that is no digit, a leading zero, or no byte at all
+// Why a text is none of the values that are allowed.
+#[derive(Clone, Copy, Debug, PartialEq, Eq)]
+pub enum ValueError {
+    // no value at all; of a number: a byte that is no digit, a leading zero, or no byte
     Malformed,
-    // a number above the limit
+    // another value; of a number: one above the limit
     Outside,
 }

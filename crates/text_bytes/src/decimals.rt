@@ -1,65 +1,40 @@
-// Decimal numbers, read.
+// Decimal numbers, read. No `parse`: it takes a plus sign and leading zeros.
 ghost use Rattle.std.specs.Prelude.{◌≡◌};
 ghost use Rattle.text.specs.Number.{read_number};
-ghost use Rattle.text_bytes.specs.internal.Digits.{scan};
+ghost use Rattle.text_bytes.specs.internal.Digits.{saturated};
 
-use text::Decimal;
-
-const DIGIT_ZERO: u8 = 48;
-
-const DIGIT_NINE: u8 = 57;
+use text::ValueError;
 
 // The saturation limit: one more than the greatest number that is kept.
-const TOO_LARGE: u64 = 4_294_967_296;
+const TOO_LARGE: u64 = 1 << 32;
 
-// Digits: their number where it is below TOO_LARGE, else TOO_LARGE; or a byte that is no digit.
-#[derive(Clone, Copy)]
-enum Digits {
-    Upto(u64),
-    Broken,
-}
-
-fn scan_digits(v: &[u8]) -> Digits
-    ensures { result ≡ scan 0 v.now }
+// The number of a text of digits where it is below TOO_LARGE, else TOO_LARGE; none where a byte is no digit.
+fn number_of_digits(v: &[u8]) -> Option<u64>
+    ensures { result ≡ saturated 0 v.now }
 {
-    let mut n: u64 = 0;
-    let mut i = 0;
-    while i < v.len() {
-        let b = v[i];
-        if b < DIGIT_ZERO {
-            return Digits::Broken;
+    let mut n = 0;
+    for &b in v {
+        if !b.is_ascii_digit() {
+            return None;
         }
-        if b > DIGIT_NINE {
-            return Digits::Broken;
-        }
-        n = n * 10 + (b - DIGIT_ZERO) as u64;
-        if n > TOO_LARGE {
-            n = TOO_LARGE;
-        }
-        i += 1;
+        // Digits are read on past it, since a later byte may be no digit.
+        n = (n * 10 + u64::from(b - b'0')).min(TOO_LARGE);
     }
-    Digits::Upto(n)
+    Some(n)
 }
 
 // The number that a text stands for, where it is at most `most`.
-pub fn read_decimal(v: &[u8], most: u32) -> Decimal
+pub fn read_decimal(v: &[u8], most: u32) -> Result<u32, ValueError>
     ensures { result ≡ read_number most v.now }
 {
-    if v.len() == 0 {
-        return Decimal::Malformed;
+    if let [] | [b'0', _, ..] = v {
+        return Err(ValueError::Malformed);
     }
-    if v.len() > 1 {
-        if v[0] == DIGIT_ZERO {
-            return Decimal::Malformed;
-        }
-    }
-    let Digits::Upto(n) = scan_digits(v) else {
-        return Decimal::Malformed;
+    let Some(n) = number_of_digits(v) else {
+        return Err(ValueError::Malformed);
     };
-    // the least number above the limit
-    let above = most as u64 + 1;
-    if n >= above {
-        return Decimal::Outside;
+    if n > u64::from(most) {
+        return Err(ValueError::Outside);
     }
-    Decimal::Number(n as u32)
+    Ok(n as u32)
 }

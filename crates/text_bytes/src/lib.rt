@@ -6,12 +6,10 @@ mod decimals;
 mod pairs;
 mod parts;
 mod pieces;
-mod values;
-mod writing;
+mod writer;
 
 pub use decimals::read_decimal;
-pub use pairs::{is_keyword, is_pair};
-pub use parts::{after_part, from, place_of, until};
-pub use pieces::{part_at, same};
-pub use values::value_of;
-pub use writing::{put_byte, put_bytes, put_decimal};
+pub use pairs::{is_keyword, is_pair, value_of};
+pub use parts::{after_part, place_of};
+pub use pieces::{from, part_at, same, until};
+pub use writer::Writer;

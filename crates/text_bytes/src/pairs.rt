@@ -1,30 +1,34 @@
 // Keywords, and key=value pairs.
 ghost use Rattle.std.specs.Prelude.{◌≡◌};
-ghost use Rattle.text.specs.Bytes.{is_keyword, is_pair};
+ghost use Rattle.text.specs.Bytes.{is_keyword, is_pair, value_of};
 
-use crate::pieces::part_at;
+use crate::pieces::position_of;
 use text::EQUALS_SIGN;
 
 // Whether a value has a byte, and no equals sign.
 pub fn is_keyword(v: &[u8]) -> bool
     ensures { result ≡ is_keyword v.now }
 {
-    if v.len() == 0 {
-        return false;
-    }
-    part_at(v, 0, EQUALS_SIGN).len() == v.len()
+    !v.is_empty() && !v.contains(&EQUALS_SIGN)
 }
 
 // Whether a part is a key, an equals sign and a value.
 pub fn is_pair(p: &[u8]) -> bool
     ensures { result ≡ is_pair p.now }
 {
-    let k = part_at(p, 0, EQUALS_SIGN).len();
-    if k == 0 {
+    let Some(sign) = position_of(p, EQUALS_SIGN) else {
         return false;
+    };
+    sign > 0 && is_keyword(&p[sign + 1..])
+}
+
+// The value's own part of the lent pair, after `key=`; no byte where the pair doesn't begin so.
+// No Option: an empty value is refused like a missing one.
+pub fn value_of<'a>(pair: &'a [u8], key: &[u8]) -> &'a [u8]
+    ensures { result.now ≡ value_of key.now pair.now }
+{
+    match pair.strip_prefix(key).unwrap_or(&[]) {
+        [EQUALS_SIGN, value @ ..] => value,
+        _ => &[],
     }
-    if k >= p.len() {
-        return false;
-    }
-    is_keyword(&p[k + 1..])
 }

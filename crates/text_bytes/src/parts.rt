@@ -1,29 +1,9 @@
-// A text's bytes up to a place or from it on, and the places of its parts.
-ghost use Rattle.std.specs.Prelude.{◌<◌, ◌≤◌, ◌+◌, ◌≡◌, length, take, drop};
+// The parts of a text, and their places. Every place has an answer, which slicing has not.
+ghost use Rattle.std.specs.Prelude.{◌<◌, ◌≤◌, ◌+◌, ◌≡◌, length};
 ghost use Rattle.text.specs.Bytes.{space, split, after_part, place_of};
 
-use crate::pieces::{part_at, same};
+use crate::pieces::part_at;
 use text::SPACE;
-
-// The first `end` bytes, or all where there are fewer.
-pub fn until(s: &[u8], end: usize) -> &[u8]
-    ensures { result.now ≡ take end s.now }
-{
-    if end < s.len() {
-        return &s[..end];
-    }
-    s
-}
-
-// The bytes from a place on; none where the text ends before.
-pub fn from(s: &[u8], at: usize) -> &[u8]
-    ensures { result.now ≡ drop at s.now }
-{
-    if at < s.len() {
-        return &s[at..];
-    }
-    &s[..0]
-}
 
 // The place after the part at a place and its separator; one past the end where that part is the last.
 pub fn after_part(s: &[u8], at: usize, d: u8) -> usize
@@ -37,18 +17,12 @@ pub fn after_part(s: &[u8], at: usize, d: u8) -> usize
 }
 
 // The number of the first part that is this one, from 0 on, among parts with spaces between; how many
-// there are for another.
+// there are for another. For a table of names in one text; nothing in this repository calls it.
 pub fn place_of(table: &[u8], part: &[u8]) -> usize
     ensures { result ≡ place_of part.now (split space table.now) }
 {
-    let mut k: usize = 0;
-    let mut at: usize = 0;
-    while at <= table.len() {
-        if same(part_at(table, at, SPACE), part) {
-            return k;
-        }
-        at = after_part(table, at, SPACE);
-        k += 1;
-    }
-    k
+    table
+        .split(|&b| b == SPACE)
+        .take_while(|&other| other != part)
+        .count()
 }

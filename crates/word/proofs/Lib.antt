@@ -1,5 +1,4 @@
 pub mod Fields
-pub mod Bases
 pub mod Candidates
 pub mod Theorems
 pub mod Later

@@ -1,6 +1,6 @@
 -- Document 01's table at the edges of its fields, as data: words with their codes, words that are refused, codes that are undefined.
-use Rattle.std.specs.Prelude.{ℕ, ◌*◌, true, false, List, [], ◌∷◌, map, ◌≡◌}
-use Rattle.word.specs.declared.Coded.TheVariants.{Code, OutsideField, UndefinedWord}
+use Rattle.std.specs.Prelude.{ℕ, ◌*◌, true, false, List, [], ◌∷◌, map, Ok, Err, ◌≡◌}
+use Rattle.word.specs.declared.EncodeError.TheVariants.{OutsideField, UndefinedWord}
 use Rattle.word.specs.declared.Direction.TheVariants.{Up, Down}
 use Rattle.word.specs.declared.JumpOp.TheVariants.{Jne, Jl, Jge, Je}
 use Rattle.word.specs.declared.ArithOp.TheVariants.{Ld, Add, Sub}
@@ -151,7 +151,7 @@ answer n w = record { number = n; code = w }
 
 -- The encoder's answers as numbers.
 abbrev pub AnswersNumbered : Type 0
-AnswersNumbered = ((w : ℕ) → answer_of (Code w) ≡ answer 0 w) × (answer_of OutsideField ≡ answer 22 0) × (answer_of UndefinedWord ≡ answer 13 0)
+AnswersNumbered = ((w : ℕ) → answer_of (Ok w) ≡ answer 0 w) × (answer_of (Err OutsideField) ≡ answer 22 0) × (answer_of (Err UndefinedWord) ≡ answer 13 0)
 
 -- Each sample has its code and is decoded from it, and has its flow and its use of the table.
 abbrev pub SamplesHold : Type 0

@@ -2,25 +2,42 @@
 // The rules are document 01's, section "Words"; specs/Table.antt is its table.
 #![tactic(auto)]
 
+ghost use Rattle.std.specs.Prelude.{◌≡◌, cond, eqb};
+ghost use Rattle.word.specs.declared.Direction.TheVariants.{Up, Down};
+
 // A step counts from the engine's start. The target of a branch is a step.
-#[derive(Clone, Copy)]
+#[derive(Clone, Copy, Debug, PartialEq, Eq)]
 pub struct Step(pub u16);
 
 // An address counts from word 0 of the program memory.
-#[derive(Clone, Copy)]
+#[derive(Clone, Copy, Debug, PartialEq, Eq, PartialOrd, Ord)]
 pub struct Address(pub u16);
 
 // The words of the program memory.
 pub const WORDS: usize = 96;
 
-#[derive(Clone, Copy)]
+#[derive(Clone, Copy, Debug, PartialEq, Eq)]
 pub enum Direction {
     Up,
     Down,
 }
 
+impl Direction {
+    // The direction of a sign: 0 is up, any other is down.
+    // No `From`: it would not say that the number is a sign.
+    pub fn of_sign(sign: u16) -> Direction
+        ensures { result ≡ cond (eqb sign 0) Up Down }
+    {
+        if sign == 0 {
+            Direction::Up
+        } else {
+            Direction::Down
+        }
+    }
+}
+
 // The operations that share a line of document 01's table, under their names in a sheet.
-#[derive(Clone, Copy)]
+#[derive(Clone, Copy, Debug, PartialEq, Eq)]
 pub enum JumpOp {
     Jne,
     Jl,
@@ -28,20 +45,20 @@ pub enum JumpOp {
     Je,
 }
 
-#[derive(Clone, Copy)]
+#[derive(Clone, Copy, Debug, PartialEq, Eq)]
 pub enum ArithOp {
     Ld,
     Add,
     Sub,
 }
 
-#[derive(Clone, Copy)]
+#[derive(Clone, Copy, Debug, PartialEq, Eq)]
 pub enum ArithVarOp {
     AddVar,
     SubVar,
 }
 
-#[derive(Clone, Copy)]
+#[derive(Clone, Copy, Debug, PartialEq, Eq)]
 pub enum MuxAtOp {
     MuxMapStart,
     MuxLdEnd,
@@ -50,7 +67,7 @@ pub enum MuxAtOp {
     MuxMapAddr,
 }
 
-#[derive(Clone, Copy)]
+#[derive(Clone, Copy, Debug, PartialEq, Eq)]
 pub enum MuxMoveOp {
     MuxMapNext,
     MuxLdNext,
@@ -61,7 +78,7 @@ pub enum MuxMoveOp {
 // An instruction word: a case for each line of document 01's table, its operands under the keys of
 // its sheet line. An operand is wide enough to lie outside its field, so that the encoder can refuse
 // it. Variables are numbers: A is 0, D is 3.
-#[derive(Clone, Copy)]
+#[derive(Clone, Copy, Debug, PartialEq, Eq)]
 pub enum Word {
     Rst,
     Ramp {
@@ -131,19 +148,19 @@ pub enum Word {
         wait: u16,
         send: u16,
     },
+    // a case, as document 01 names it: every 16 bits decode to a word
     Undefined,
 }
 
-// What the encoder answers. `answer_of` in specs/Answer.antt gives each case's number in document 01.
-#[derive(Clone, Copy)]
-pub enum Coded {
-    Code(u16),
+// Why a word has no code. `answer_of` in specs/Answer.antt gives each case's number in document 01.
+#[derive(Clone, Copy, Debug, PartialEq, Eq)]
+pub enum EncodeError {
     OutsideField,
     UndefinedWord,
 }
 
 // Where a word lets the engine go on.
-#[derive(Clone, Copy)]
+#[derive(Clone, Copy, Debug, PartialEq, Eq)]
 pub enum Flow {
     // the next word
     Next,
@@ -170,13 +187,14 @@ pub enum Flow {
         left: u16,
         right: u16,
     },
-    // there is no such word
+    // there is no such word; a case, so that each rule of a flow speaks of every word
     Fault,
 }
 
 // What a word does to the pointers of the engine's mapping table.
-#[derive(Clone, Copy)]
+#[derive(Clone, Copy, Debug, PartialEq, Eq)]
 pub enum TableUse {
+    // a case, so that each rule of the table speaks of every word
     Nothing,
     // sets top and index
     StartAt(Address),

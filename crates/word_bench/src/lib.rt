@@ -3,9 +3,8 @@
 // folded into one number, so that no part of the work can be left out.
 #![tactic(auto)]
 
-ghost use Rattle.std.specs.Prelude.{cond, ◌≡◌};
+ghost use Rattle.std.specs.Prelude.{◌≡◌};
 ghost use Rattle.word.specs.Profile.{LP5523};
-ghost use Rattle.word.specs.Classes.{is_undefined};
 ghost use Rattle.word.specs.Decode.{decode_of};
 ghost use Rattle.op_lines.specs.Values.{word_values};
 ghost use Rattle.word_bench.specs.Defined.{defined_in};
@@ -13,18 +12,12 @@ ghost use Rattle.word_bench.specs.Digest.{digest_of};
 
 use decoder::is_undefined;
 use grammar::Values;
-use word::Word;
-
-fn wide(x: u16) -> u64
-    ensures { result ≡ x }
-{
-    x as u64
-}
 
 fn digest(v: Values) -> u64
     ensures { result ≡ digest_of v }
 {
-    (((wide(v.a) * 257 + wide(v.b)) * 257 + wide(v.c)) * 257 + wide(v.d)) * 257 + wide(v.e)
+    let [op, a, b, c, d, ..] = v.map(u64::from);
+    (((op * 257 + a) * 257 + b) * 257 + c) * 257 + d
 }
 
 #[unsafe(no_mangle)]
@@ -41,33 +34,24 @@ pub extern "C" fn confirmed_digest(code: u16) -> u64
     digest(op_codec::values_of(confirming_decoder::decode(code)))
 }
 
-fn defined(word: Word) -> usize
-    ensures { result ≡ cond (is_undefined word) 0 1 }
-{
-    if is_undefined(word) {
-        return 0;
-    }
-    1
-}
-
+// One chain for each decoder: a function that takes the decoder would have to say in its `requires`
+// what that decodes, and be no shorter.
 #[unsafe(no_mangle)]
 pub extern "C" fn words_defined(codes: &[u16]) -> usize
     ensures { result ≡ defined_in codes.now }
 {
-    let mut n = 0;
-    for i in 0..codes.len() {
-        n += defined(decoder::decode(codes[i]));
-    }
-    n
+    codes
+        .iter()
+        .filter(|&&code| !is_undefined(decoder::decode(code)))
+        .count()
 }
 
 #[unsafe(no_mangle)]
 pub extern "C" fn confirmed_defined(codes: &[u16]) -> usize
     ensures { result ≡ defined_in codes.now }
 {
-    let mut n = 0;
-    for i in 0..codes.len() {
-        n += defined(confirming_decoder::decode(codes[i]));
-    }
-    n
+    codes
+        .iter()
+        .filter(|&&code| !is_undefined(confirming_decoder::decode(code)))
+        .count()
 }

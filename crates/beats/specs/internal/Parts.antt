@@ -8,6 +8,9 @@ use Rattle.engine.specs.Parts.{Fixed}
 abbrev pub level_of : Output → ℕ
 level_of o = o.level
 
+abbrev pub loops_of : Engine → List ℕ
+loops_of e = e.loops
+
 abbrev pub fixed_of : Chip → Fixed
 fixed_of m = record { enabled = m.enabled; d = m.d; page = m.page; memory = m.memory }
 
@@ -15,4 +18,4 @@ abbrev pub levels_of : Chip → List ℕ
 levels_of m = map level_of m.outputs
 
 abbrev pub counts_of : Chip → List (List ℕ)
-counts_of m = map (λ (e : Engine). e.loops) m.engines
+counts_of m = map loops_of m.engines

@@ -1,81 +1,67 @@
 // Bursts made of a script's numbers, and words loaded by bursts.
 ghost use Rattle.std.specs.Prelude.{◌<◌};
 
-use super::State;
-use crate::numbers::Numbers;
-use crate::{numbers, print};
-use machine::{Chip, Outcome, WriteResult};
+use super::Chips;
+use crate::numbers;
+use crate::numbers::{MOST, Numbers};
+use machine::{CallError, Chip};
 use std::io;
-use text_bytes::{put_byte, until};
+use text_bytes::until;
+use word::WORDS;
 
-// A refusal of what is meant to succeed; nothing for success.
-pub fn refusal(rt: &impl Print, outcome: Outcome) -> io::Result<()> {
-    let n = refusals::number_of(outcome);
-    if n != 0 {
-        print::say(rt, b" refused=$", [n as u32, 0, 0, 0])?;
+// A call that is meant to succeed: a refusal is said, and leaves the chip as it was. The chip goes in and
+// out, since a refusal is said before it is stored.
+pub fn expected(rt: &impl Print, m: Chip, call: Result<Chip, CallError>) -> io::Result<Chip> {
+    if let Err(error) = call {
+        print!(rt; " refused={}", refusals::error_number_of(error))?;
     }
-    Ok(())
+    Ok(call.unwrap_or(m))
 }
 
-// The chip after a burst that is meant to succeed.
-pub fn expected(rt: &impl Print, written: WriteResult) -> io::Result<Chip> {
-    let outcome = written.outcome;
-    refusal(rt, outcome)?;
-    Ok(written.chip)
-}
-
-// The numbers from a place on as bytes; how many they are.
-fn put_numbers(rt: &impl Print, bytes: &mut [u8], n: Numbers, first: usize) -> io::Result<usize> {
-    let mut end = 0;
-    let mut i = first;
-    while i < n.count {
-        end = put_byte(bytes, end, numbers::byte(rt, n, i)?);
-        i += 1;
-    }
-    Ok(end)
-}
-
-// A burst of the numbers from a place on.
+// A burst of these numbers.
 pub fn burst_of(
     rt: &impl Print,
     m: Chip,
     address: u16,
-    n: Numbers,
-    first: usize,
-) -> io::Result<WriteResult> {
-    let mut bytes = [0u8; 40];
-    let count = put_numbers(rt, &mut bytes, n, first)?;
-    Ok(chip::burst(m, address, until(&bytes, count)))
+    given: &[u32],
+) -> io::Result<Result<Chip, CallError>> {
+    let mut bytes = [0u8; MOST];
+    for (byte, &n) in bytes.iter_mut().zip(given) {
+        *byte = numbers::byte(rt, n)?;
+    }
+    Ok(chip::burst(m, address, until(&bytes, given.len())))
+}
+
+// A burst to the address that the first number gives, of the numbers behind it.
+pub fn addressed(rt: &impl Print, m: Chip, n: &Numbers) -> io::Result<Result<Chip, CallError>> {
+    burst_of(rt, m, n.wide(rt, 0)?, n.after_first())
 }
 
 // A new chip, enabled, its engines held and in load mode.
 pub fn loading(rt: &impl Print) -> io::Result<Chip> {
-    expected(rt, chip::burst(chip::new_chip(), 0x00, &[0x40, 0x15]))
+    let m = chip::new_chip();
+    expected(rt, m, chip::burst(m, 0x00, &[0x40, 0x15]))
 }
 
 // The word at an address: its page, then its two bytes, the high one first.
 fn put_word(rt: &impl Print, m: Chip, at: usize, code: u16) -> io::Result<Chip>
     requires { at < 96 }
 {
-    let page = [(at / 16) as u8];
-    let bytes = [(code / 256) as u8, (code % 256) as u8];
-    let paged = expected(rt, chip::burst(m, 0x4F, &page))?;
-    expected(rt, chip::burst(paged, (0x50 + at % 16 * 2) as u16, &bytes))
+    let paged = expected(rt, m, chip::burst(m, 0x4F, &[(at / 16) as u8]))?;
+    let address = (0x50 + at % 16 * 2) as u16;
+    expected(rt, paged, chip::burst(paged, address, &code.to_be_bytes()))
 }
 
-// Words one after the other, while an engine is in load mode.
-pub fn words(rt: &impl Print, s: State, n: Numbers) -> io::Result<State> {
-    let mut m = s.chip;
-    let mut at = s.at;
-    let mut i = 0;
-    while i < n.count {
-        if at >= 96 {
-            print::text(rt, b" no such word")?;
-            break;
+impl Chips {
+    // Words one after the other, while an engine is in load mode.
+    pub(super) fn words(&mut self, rt: &impl Print, n: &Numbers) -> io::Result<()> {
+        for &code in n.all() {
+            if self.at >= WORDS {
+                return print!(rt; " no such word");
+            }
+            self.chip = put_word(rt, self.chip, self.at, numbers::wide(rt, code)?)?;
+            self.at += 1;
         }
-        m = put_word(rt, m, at, numbers::wide(rt, n, i)?)?;
-        at += 1;
-        i += 1;
+        Ok(())
     }
-    Ok(State { chip: m, at })
 }

@@ -1,28 +1,18 @@
 // Lent memory: what it is before a call, and whether it is so afterwards.
-
 pub const FILL_WORD: u16 = 0x5A5A;
 
 pub const FILL_BYTE: u8 = b'~';
 
-pub fn words_kept(words: &[u16]) -> bool {
-    let mut i = 0;
-    while i < words.len() {
-        if words[i] != FILL_WORD {
-            return false;
-        }
-        i += 1;
+// Whether lent memory has only what it was filled with, in a word.
+pub fn kept<T: PartialEq>(lent: &[T], fill: &T) -> &'static str {
+    if lent.iter().all(|x| x == fill) {
+        "kept"
+    } else {
+        "changed"
     }
-    true
 }
 
-// The bytes from a place on.
-pub fn bytes_kept(bytes: &[u8], from: usize) -> bool {
-    let mut i = from;
-    while i < bytes.len() {
-        if bytes[i] != FILL_BYTE {
-            return false;
-        }
-        i += 1;
-    }
-    true
+// Whether two texts are the same, in a word.
+pub fn compared(text: &[u8], other: &[u8]) -> &'static str {
+    if text == other { "same" } else { "other" }
 }

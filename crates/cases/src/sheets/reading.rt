@@ -1,36 +1,29 @@
 // The reader's answer: document 01's number and line, and whether the lent image was kept.
-use super::State;
-use super::lent::{FILL_WORD, words_kept};
-use crate::print;
-use asm::Assembled;
+use super::Sheets;
+use super::lent::{FILL_WORD, kept};
+use asm::AssembleError;
+use plan::Plan;
 use std::io;
-use text_bytes::until;
 
-// More than there is cannot be lent.
-fn called(text: &[u8], lent: &mut [u16], words: usize) -> Assembled {
-    if words > lent.len() {
-        return Assembled::WrongLength;
-    }
-    assembler::assemble(text, &mut lent[..words])
+// A script may ask for more than is there.
+fn assembled(text: &[u8], lent: &mut [u16], words: usize) -> Result<Plan, AssembleError> {
+    let image = lent.get_mut(..words).ok_or(AssembleError::WrongLength)?;
+    assembler::assemble(text, image)
 }
 
-// Reads the sheet; the program changes only where it was read.
-pub fn read(rt: &impl Print, s: State, sheet: &[u8]) -> io::Result<State> {
-    let mut lent = [FILL_WORD; 100];
-    let read = called(until(sheet, s.sheet), &mut lent, s.words);
-    let a = refusals::line_report_of(read);
-    print::say(
-        rt,
-        b": number=$ line=$",
-        [a.number as u32, a.line as u32, 0, 0],
-    )?;
-    print::either(rt, words_kept(&lent), b" image=kept", b" image=changed")?;
-    let Assembled::Program(plan) = read else {
-        return Ok(s);
-    };
-    Ok(State {
-        plan,
-        image: lent,
-        ..s
-    })
+impl Sheets<'_> {
+    // Reads the sheet; the program changes only where it was read.
+    pub(super) fn read(&mut self, rt: &impl Print) -> io::Result<()> {
+        let mut lent = [FILL_WORD; 100];
+        let words = self.words;
+        let read = assembled(self.text(), &mut lent, words);
+        let a = refusals::line_report_of(read);
+        let image = kept(&lent, &FILL_WORD);
+        print!(rt; ": number={} line={} image={image}", a.number, a.line)?;
+        if let Ok(plan) = read {
+            self.plan = plan;
+            self.image = lent;
+        }
+        Ok(())
+    }
 }

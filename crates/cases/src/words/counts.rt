@@ -1,68 +1,48 @@
 // Of how many of the 65,536 codes something holds.
-use crate::names::{OPS, op_named};
-use crate::print;
+use crate::names::op_named;
+use decoder::{decode, is_undefined};
+use encoder::encode;
 use op_codec::values_of;
 use std::io;
-use text_bytes::place_of;
-use word::Coded;
 
-#[derive(Clone, Copy)]
+#[derive(Clone, Copy, Debug, PartialEq, Eq)]
 enum Question {
-    // a code of this op; OPS is the undefined word's
+    // a code of this op
     Is(u16),
+    Undefined,
     Defined,
     // the code of its own word
     EncodedBack,
-    Unknown,
 }
 
-fn question_named(name: &[u8]) -> Question {
-    let op = op_named(name);
-    if op < OPS {
-        return Question::Is(op);
+impl Question {
+    fn named(name: &[u8]) -> Option<Question> {
+        match name {
+            b"undefined" => Some(Question::Undefined),
+            b"defined" => Some(Question::Defined),
+            b"encoded-back" => Some(Question::EncodedBack),
+            _ => op_named(name).map(Question::Is),
+        }
     }
-    match place_of(b"undefined defined encoded-back", name) {
-        0 => Question::Is(OPS),
-        1 => Question::Defined,
-        2 => Question::EncodedBack,
-        _ => Question::Unknown,
-    }
-}
 
-fn encodes_back(code: u16) -> bool {
-    if let Coded::Code(again) = encoder::encode(decoder::decode(code)) {
-        return again == code;
+    fn holds(self, code: u16) -> bool {
+        match self {
+            Question::Is(op) => op_of(code) == op,
+            Question::Undefined => is_undefined(decode(code)),
+            Question::Defined => !is_undefined(decode(code)),
+            Question::EncodedBack => encode(decode(code)) == Ok(code),
+        }
     }
-    false
 }
 
 fn op_of(code: u16) -> u16 {
-    values_of(decoder::decode(code)).a
-}
-
-fn holds(question: Question, code: u16) -> bool {
-    match question {
-        Question::Is(op) => op_of(code) == op,
-        Question::Defined => op_of(code) < OPS,
-        Question::EncodedBack => encodes_back(code),
-        Question::Unknown => false,
-    }
-}
-
-fn count(question: Question) -> u32 {
-    let mut n: u32 = 0;
-    for code in 0..=65535 {
-        if holds(question, code) {
-            n += 1;
-        }
-    }
-    n
+    values_of(decode(code))[0]
 }
 
 pub(super) fn command(rt: &impl Print, name: &[u8]) -> io::Result<()> {
-    let question = question_named(name);
-    if let Question::Unknown = question {
-        return print::text(rt, b": unknown");
-    }
-    print::say(rt, b": $", [count(question), 0, 0, 0])
+    let Some(question) = Question::named(name) else {
+        return print!(rt; ": unknown");
+    };
+    let count = (0..=u16::MAX).filter(|code| question.holds(*code)).count();
+    print!(rt; ": {count}")
 }

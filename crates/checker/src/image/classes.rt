@@ -9,11 +9,9 @@ fn use_at(op: MuxAtOp, address: Address) -> TableUse
     ensures { result ≡ use_at op address }
 {
     match op {
-        MuxAtOp::MuxMapStart => TableUse::StartAt(address),
+        MuxAtOp::MuxMapStart | MuxAtOp::MuxLdStart => TableUse::StartAt(address),
         MuxAtOp::MuxLdEnd => TableUse::EndAt(address),
-        MuxAtOp::MuxLdStart => TableUse::StartAt(address),
-        MuxAtOp::MuxLdAddr => TableUse::RowAt(address),
-        MuxAtOp::MuxMapAddr => TableUse::RowAt(address),
+        MuxAtOp::MuxLdAddr | MuxAtOp::MuxMapAddr => TableUse::RowAt(address),
     }
 }
 
@@ -21,10 +19,8 @@ fn use_move(op: MuxMoveOp) -> TableUse
     ensures { result ≡ use_move op }
 {
     match op {
-        MuxMoveOp::MuxMapNext => TableUse::Forward,
-        MuxMoveOp::MuxLdNext => TableUse::Forward,
-        MuxMoveOp::MuxMapPrev => TableUse::Backward,
-        MuxMoveOp::MuxLdPrev => TableUse::Backward,
+        MuxMoveOp::MuxMapNext | MuxMoveOp::MuxLdNext => TableUse::Forward,
+        MuxMoveOp::MuxMapPrev | MuxMoveOp::MuxLdPrev => TableUse::Backward,
     }
 }
 

@@ -1,30 +1,19 @@
 // 15: the mux words keep to the engine's own table.
 ghost use Rattle.std.specs.Prelude.{◌≡◌};
-ghost use Rattle.plan.specs.Tests.{in_range, use_inside, no_use, uses_own_table};
+ghost use Rattle.plan.specs.Tests.{use_inside, no_use, uses_own_table};
 
-use plan::EnginePlan;
-use word::{Address, TableUse};
-
-fn row_in_table(top: Address, bottom: Address, row: Address) -> bool
-    ensures { result ≡ in_range top bottom row.0 }
-{
-    if top.0 > row.0 {
-        return false;
-    }
-    row.0 <= bottom.0
-}
+use plan::{AddressRange, EnginePlan};
+use word::TableUse;
 
 // 15, with a table: what a mux word says is the table's.
-fn use_inside(top: Address, bottom: Address, usage: TableUse) -> bool
-    ensures { result ≡ use_inside top bottom usage }
+fn use_inside(table: AddressRange, usage: TableUse) -> bool
+    ensures { result ≡ use_inside table.first table.last usage }
 {
     match usage {
-        TableUse::Nothing => true,
-        TableUse::StartAt(address) => address.0 == top.0,
-        TableUse::EndAt(address) => address.0 == bottom.0,
-        TableUse::RowAt(address) => row_in_table(top, bottom, address),
-        TableUse::Forward => true,
-        TableUse::Backward => true,
+        TableUse::Nothing | TableUse::Forward | TableUse::Backward => true,
+        TableUse::StartAt(address) => address == table.first,
+        TableUse::EndAt(address) => address == table.last,
+        TableUse::RowAt(address) => table.contains(address.0 as u32),
     }
 }
 
@@ -32,27 +21,14 @@ fn use_inside(top: Address, bottom: Address, usage: TableUse) -> bool
 fn no_use(usage: TableUse) -> bool
     ensures { result ≡ no_use usage }
 {
-    match usage {
-        TableUse::Nothing => true,
-        TableUse::StartAt(_) => false,
-        TableUse::EndAt(_) => false,
-        TableUse::RowAt(_) => false,
-        TableUse::Forward => false,
-        TableUse::Backward => false,
-    }
+    matches!(usage, TableUse::Nothing)
 }
 
 pub(super) fn uses_own_table(q: EnginePlan, usage: TableUse) -> bool
     ensures { result ≡ uses_own_table q usage }
 {
-    match q {
-        EnginePlan::Unused => no_use(usage),
-        EnginePlan::CodeOnly { first: _, last: _ } => no_use(usage),
-        EnginePlan::CodeAndTable {
-            first: _,
-            last: _,
-            top,
-            bottom,
-        } => use_inside(top, bottom, usage),
+    match q.table() {
+        Some(table) => use_inside(table, usage),
+        None => no_use(usage),
     }
 }

@@ -1,89 +1,49 @@
 // 12: a code address that is also a table address.
-ghost use Rattle.std.specs.Prelude.{◌≡◌};
+ghost use Rattle.std.specs.Prelude.{not, ◌≡◌};
+ghost use Rattle.std.specs.List.{list_any};
 ghost use Rattle.word.specs.Profile.{LP5523};
-ghost use Rattle.plan.specs.Tests.{overlap, code_overlaps, overlaps};
-ghost use Rattle.plan.specs.internal.Passes.{overlaps_some, overlap_verdict};
+ghost use Rattle.plan.specs.declared.CheckError.TheVariants.{CodeOverlapsTable};
+ghost use Rattle.plan.specs.Tests.{overlap, overlaps};
+ghost use Rattle.plan.specs.internal.Passes.{required, overlap_verdict};
 
-use plan::{EnginePlan, Plan, Verdict};
-use word::Address;
+use plan::{AddressRange, CheckError, EnginePlan, Plan};
 
 // 12: both ranges have addresses, and neither lies beyond the other.
-fn ranges_overlap(first: Address, last: Address, top: Address, bottom: Address) -> bool
-    ensures { result ≡ overlap first last top bottom }
+fn ranges_overlap(code: AddressRange, table: AddressRange) -> bool
+    ensures { result ≡ overlap code.first code.last table.first table.last }
 {
-    if first.0 > last.0 {
-        return false;
-    }
-    if top.0 > bottom.0 {
-        return false;
-    }
-    if first.0 > bottom.0 {
-        return false;
-    }
-    top.0 <= last.0
-}
-
-fn code_overlaps(q: EnginePlan, top: Address, bottom: Address) -> bool
-    ensures { result ≡ code_overlaps q top bottom }
-{
-    match q {
-        EnginePlan::Unused => false,
-        EnginePlan::CodeOnly { first, last } => ranges_overlap(first, last, top, bottom),
-        EnginePlan::CodeAndTable {
-            first,
-            last,
-            top: _,
-            bottom: _,
-        } => ranges_overlap(first, last, top, bottom),
-    }
+    code.first <= code.last
+        && table.first <= table.last
+        && code.first <= table.last
+        && table.first <= code.last
 }
 
 fn overlaps_table_of(q: EnginePlan, other: EnginePlan) -> bool
     ensures { result ≡ overlaps q other }
 {
-    match other {
-        EnginePlan::Unused => false,
-        EnginePlan::CodeOnly { first: _, last: _ } => false,
-        EnginePlan::CodeAndTable {
-            first: _,
-            last: _,
-            top,
-            bottom,
-        } => code_overlaps(q, top, bottom),
+    match (q.code(), other.table()) {
+        (Some(code), Some(table)) => ranges_overlap(code, table),
+        _ => false,
     }
 }
 
-// The code of q and a table of any engine.
-fn overlaps_some(plan: Plan, q: EnginePlan) -> bool
-    ensures { result ≡ overlaps_some LP5523 plan q }
+// 12: the code of q is apart from each engine's table.
+fn check_engine(engines: &[EnginePlan; 3], q: EnginePlan, engine: u16) -> Result<(), CheckError>
+    ensures { result ≡ required (not (list_any (λ r. overlaps q r) engines.now)) (CodeOverlapsTable engine) }
 {
-    let q1 = plan.engine1;
-    if overlaps_table_of(q, q1) {
-        return true;
+    if engines.iter().any(|r| overlaps_table_of(q, *r)) {
+        return Err(CheckError::CodeOverlapsTable { engine });
     }
-    let q2 = plan.engine2;
-    if overlaps_table_of(q, q2) {
-        return true;
-    }
-    let q3 = plan.engine3;
-    overlaps_table_of(q, q3)
+    Ok(())
 }
 
 // 12, engine by engine.
-pub(super) fn check_overlap(plan: Plan) -> Verdict
+pub(super) fn check_overlap(plan: Plan) -> Result<(), CheckError>
     ensures { result ≡ overlap_verdict LP5523 plan }
 {
-    let q1 = plan.engine1;
-    if overlaps_some(plan, q1) {
-        return Verdict::CodeOverlapsTable { engine: 1 };
+    let engines = plan.engines();
+    for (k, q) in engines.iter().enumerate() {
+        check_engine(&engines, *q, k as u16 + 1)?;
     }
-    let q2 = plan.engine2;
-    if overlaps_some(plan, q2) {
-        return Verdict::CodeOverlapsTable { engine: 2 };
-    }
-    let q3 = plan.engine3;
-    if overlaps_some(plan, q3) {
-        return Verdict::CodeOverlapsTable { engine: 3 };
-    }
-    Verdict::Accept
+    Ok(())
 }

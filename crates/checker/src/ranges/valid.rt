@@ -1,57 +1,37 @@
 // 11: first above last, top above bottom, or past the memory.
 ghost use Rattle.std.specs.Prelude.{◌≡◌};
 ghost use Rattle.word.specs.Profile.{LP5523};
-ghost use Rattle.plan.specs.Tests.{valid_range, valid_ranges};
-ghost use Rattle.plan.specs.internal.Passes.{valid_verdict};
+ghost use Rattle.plan.specs.declared.CheckError.TheVariants.{InvalidRange};
+ghost use Rattle.plan.specs.Tests.{valid_some, valid_ranges};
+ghost use Rattle.plan.specs.internal.Passes.{required, valid_verdict};
 
-use plan::{EnginePlan, Plan, Verdict};
-use word::{Address, WORDS};
+use plan::{AddressRange, CheckError, EnginePlan, Plan};
+use word::WORDS;
 
-// 11: the range is in order and in the memory.
-fn valid_range(first: Address, last: Address) -> bool
-    ensures { result ≡ valid_range LP5523 first last }
+// 11: the range is in order and in the memory, if there is one.
+fn is_valid(range: Option<AddressRange>) -> bool
+    ensures { result ≡ valid_some LP5523 range }
 {
-    if first.0 > last.0 {
-        return false;
-    }
-    (last.0 as usize) < WORDS
+    range.is_none_or(|r| r.first <= r.last && (r.last.0 as usize) < WORDS)
 }
 
-fn valid_ranges(q: EnginePlan) -> bool
-    ensures { result ≡ valid_ranges LP5523 q }
+fn check_engine(q: EnginePlan, engine: u16) -> Result<(), CheckError>
+    ensures { result ≡ required (valid_ranges LP5523 q) (InvalidRange engine) }
 {
-    match q {
-        EnginePlan::Unused => true,
-        EnginePlan::CodeOnly { first, last } => valid_range(first, last),
-        EnginePlan::CodeAndTable {
-            first,
-            last,
-            top,
-            bottom,
-        } => {
-            if !valid_range(first, last) {
-                return false;
-            }
-            valid_range(top, bottom)
-        }
+    if is_valid(q.code()) && is_valid(q.table()) {
+        Ok(())
+    } else {
+        Err(CheckError::InvalidRange { engine })
     }
 }
 
 // 11, engine by engine.
-pub(super) fn check_valid(plan: Plan) -> Verdict
+pub(super) fn check_valid(plan: Plan) -> Result<(), CheckError>
     ensures { result ≡ valid_verdict LP5523 plan }
 {
-    let q1 = plan.engine1;
-    if !valid_ranges(q1) {
-        return Verdict::InvalidRange { engine: 1 };
+    let engines = plan.engines();
+    for (k, q) in engines.iter().enumerate() {
+        check_engine(*q, k as u16 + 1)?;
     }
-    let q2 = plan.engine2;
-    if !valid_ranges(q2) {
-        return Verdict::InvalidRange { engine: 2 };
-    }
-    let q3 = plan.engine3;
-    if !valid_ranges(q3) {
-        return Verdict::InvalidRange { engine: 3 };
-    }
-    Verdict::Accept
+    Ok(())
 }

@@ -5,6 +5,8 @@ use Rattle.machine.specs.declared.Progress.TheVariants.{BetweenWords, Waiting, R
 use Rattle.machine.specs.declared.Engine.{Engine}
 use Rattle.machine.specs.Parts.{with_progress}
 use Rattle.machine.specs.Turn.{acts}
+use Rattle.engine_core.specs.declared.EngineCore.{EngineCore}
+use Rattle.engine_core.specs.Core.{engine_of}
 
 -- The beats of a wait that are left after this one; 0 for all else.
 abbrev pub left_of : Progress → ℕ
@@ -27,3 +29,7 @@ all_idle (e ∷ es) = idles e && all_idle es
 -- The engine after such a beat.
 abbrev pub idled : Engine → Engine
 idled e = cond (nat_lt 0 (wait_left e)) (with_progress (Waiting (wait_left e)) e) e
+
+-- The same of a core.
+abbrev pub core_idled : EngineCore → EngineCore
+core_idled k = cond (nat_lt 0 (wait_left (engine_of k []))) (record k { progress = Waiting (wait_left (engine_of k [])) }) k

@@ -5,7 +5,6 @@ use Rattle.machine.specs.declared.Progress.TheVariants.{BetweenWords, Waiting, R
 use Rattle.machine.specs.declared.Effect.{Effect}
 use Rattle.machine.specs.declared.Effect.TheVariants.{Keep, Move}
 use Rattle.machine.specs.declared.Engine.{Engine}
-use Rattle.machine.specs.Parts.{with_progress}
 use Rattle.machine.specs.Turn.{is_run}
 
 -- Whether the word goes on after this beat, by the triggers that are pending.
@@ -32,7 +31,3 @@ effect_of (Triggering w x) = Keep
 -- The engine is in run mode, in a word that goes on.
 abbrev pub outlasts : Engine → Bool
 outlasts e = is_run e.mode && continues e.pending e.progress
-
--- The engine after such a beat.
-abbrev pub lasted : Engine → Engine
-lasted e = with_progress (progressed e.progress) e

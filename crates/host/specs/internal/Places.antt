@@ -1,4 +1,5 @@
--- What the code needs of a register: that its engine, output or byte of the page is there.
+-- What the code needs of a register: that its engine, output or byte of the page is there. Said here once: in a type with an invariant
+-- the definitions of a register's rules would build a proof with each number.
 use Rattle.std.specs.Prelude.{◌<◌}
 use Rattle.machine.specs.declared.Register.{Register}
 use Rattle.machine.specs.declared.Register.TheVariants.{Control, Modes, OutputLevel, VariableD, Start, Page, Memory, Unlisted}

@@ -1,75 +1,55 @@
-// What the numbers 4 to 7 ask of the engines.
-ghost use Rattle.std.specs.Prelude.{◌&&◌, ◌≡◌, ◌<◌};
+// What refusals 4, 5 and 6 ask of the engines.
+ghost use Rattle.std.specs.Prelude.{◌&&◌, ◌≡◌};
+ghost use Rattle.std.specs.List.{list_any, zip};
 ghost use Rattle.machine.specs.Turn.{mid_word};
-ghost use Rattle.machine.specs.Tick.{is_load, loads};
-ghost use Rattle.machine.specs.Registers.{pair_of, mode_of};
+ghost use Rattle.machine.specs.Tick.{some, is_load};
+ghost use Rattle.machine.specs.Registers.{mode_of};
 ghost use Rattle.machine.specs.Judged.{in_use, load_refused, memory_in_use};
+ghost use Rattle.host.specs.internal.Asked.{refuses};
 
-use crate::write::fields::mode_of;
-use engine_core::{any, is_load, mid_word};
+use crate::write::fields::pairs_of;
+use engine_core::{any_loads, is_load};
 use machine::{Engine, Mode};
 
 // In run or halt.
 pub(super) fn in_use(mode: Mode) -> bool
     ensures { result ≡ in_use mode }
 {
-    match mode {
-        Mode::Disabled => false,
-        Mode::Load => false,
-        Mode::Run => true,
-        Mode::Halt => true,
-    }
+    matches!(mode, Mode::Run | Mode::Halt)
 }
 
-// 4 of engine i.
-fn refuses_load(e: Engine, byte: u8, i: usize) -> bool
-    requires { i < 3 }
-    ensures { result ≡ (is_load (mode_of (pair_of byte i)) && in_use e.mode) }
+// Refusal 4 of an engine, by its two bits.
+fn refuses_load(e: Engine, bits: u8) -> bool
+    ensures { result ≡ (is_load (mode_of bits) && in_use e.mode) }
 {
-    let mode = e.mode;
-    if !is_load(mode_of(byte, i)) {
-        return false;
-    }
-    in_use(mode)
+    is_load(Mode::from_bits(bits)) && in_use(e.mode)
 }
 
-// 4
+fn any_refuses_load(engines: &[Engine], pairs: &[u8]) -> bool
+    ensures { result ≡ list_any refuses (zip engines.now pairs.now) }
+{
+    engines
+        .iter()
+        .zip(pairs.iter())
+        .any(|(e, bits)| refuses_load(*e, *bits))
+}
+
+// Refusal 4.
 pub(super) fn load_refused(engines: [Engine; 3], byte: u8) -> bool
     ensures { result ≡ load_refused byte 0 engines }
 {
-    let one = engines[0];
-    let two = engines[1];
-    let three = engines[2];
-    any(
-        refuses_load(one, byte, 0),
-        refuses_load(two, byte, 1),
-        refuses_load(three, byte, 2),
-    )
+    any_refuses_load(&engines, &pairs_of(byte))
 }
 
-fn loads(e: Engine) -> bool
-    ensures { result ≡ loads e }
+fn any_mid_word(engines: [Engine; 3]) -> bool
+    ensures { result ≡ some (λ e. mid_word e.progress) engines }
 {
-    let mode = e.mode;
-    is_load(mode)
+    engines.iter().any(|e| e.progress.is_mid_word())
 }
 
-fn in_word(e: Engine) -> bool
-    ensures { result ≡ mid_word e.progress }
-{
-    let progress = e.progress;
-    mid_word(progress)
-}
-
-// 6
+// Refusal 6.
 pub(super) fn memory_in_use(engines: [Engine; 3]) -> bool
     ensures { result ≡ memory_in_use engines }
 {
-    let one = engines[0];
-    let two = engines[1];
-    let three = engines[2];
-    if !any(loads(one), loads(two), loads(three)) {
-        return true;
-    }
-    any(in_word(one), in_word(two), in_word(three))
+    !any_loads(&engines) || any_mid_word(engines)
 }

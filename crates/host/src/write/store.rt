@@ -6,25 +6,22 @@ ghost use Rattle.machine.specs.Stored.{with_byte, stored};
 ghost use Rattle.host.specs.internal.Places.{Exists};
 
 use crate::write::states::{set_execs, set_modes};
+use engine_core::has_bit;
 use machine::{Chip, Output, Register};
-use word::Address;
+use word::{Address, WORDS};
 
 fn store_control(mut chip: Chip, byte: u8) -> Chip
     ensures { result ≡ stored LP5523 Control byte chip }
 {
-    let engines = chip.engines;
-    let changed = set_execs(engines, byte);
-    chip.engines = changed;
-    chip.enabled = byte / 64 % 2 == 1;
+    chip.engines = set_execs(chip.engines, byte);
+    chip.enabled = has_bit(byte as u16, 6);
     chip
 }
 
 fn store_modes(mut chip: Chip, byte: u8) -> Chip
     ensures { result ≡ stored LP5523 Modes byte chip }
 {
-    let engines = chip.engines;
-    let changed = set_modes(engines, byte);
-    chip.engines = changed;
+    chip.engines = set_modes(chip.engines, byte);
     chip
 }
 
@@ -40,10 +37,7 @@ fn store_start(mut chip: Chip, i: u16, byte: u8) -> Chip
     requires { i < 3 }
     ensures { result ≡ stored LP5523 (Start i) byte chip }
 {
-    let mut e = chip.engines[i as usize];
-    let start = Address(byte as u16);
-    e.start = start;
-    chip.engines[i as usize] = e;
+    chip.engines[i as usize].start = Address(byte as u16);
     chip
 }
 
@@ -64,11 +58,9 @@ fn store_memory(mut chip: Chip, k: u16, byte: u8) -> Chip
     ensures { result ≡ stored LP5523 (Memory k) byte chip }
 {
     let at = 16 * chip.page as usize + (k / 2) as usize;
-    if at >= 96 {
-        return chip;
+    if at < WORDS {
+        chip.memory[at] = with_byte(k, byte, chip.memory[at]);
     }
-    let word = chip.memory[at];
-    chip.memory[at] = with_byte(k, byte, word);
     chip
 }
 

@@ -1,27 +1,23 @@
-// A line of the bench, answered.
-use super::bursts::{Burst, read_bytes};
+// A line of the bench, answered. Each answer takes the runtime and the chip: in one value they would
+// need a type with a parameter and a lifetime.
+use super::bursts::{BurstError, read_burst};
 use super::state::put_chip;
-use crate::cli::numbers::{Number, TOO_MANY, read_number};
+use crate::cli::numbers::{TOO_MANY, read_number};
 use crate::cli::output;
-use crate::cli::output::{ANSWER, OUTPUT, made, tell};
-use crate::cli::serving::{Mode, Talk};
+use crate::cli::output::{ANSWER, Stream, made, tell, write_bytes};
+use crate::cli::serving::{Lines, Talk};
 use crate::cli::status::Status;
 use crate::cli::system::Streams;
-use crate::sentences::say::{Message, Say, say_only, say_three};
-use crate::sentences::shown::NO_QUOTE;
+use crate::sentences::say::{Message, Say, say_only, say_with};
 use crate::sentences::{calls, templates};
 use crate::sheets::reading::write_words;
-use machine::{Chip, Outcome};
-use text::{Decimal, SPACE};
-use text_bytes::{after_part, from, part_at, place_of, read_decimal, same, until};
+use machine::{CallError, Chip};
+use text::SPACE;
+use text_bytes::{Writer, after_part, from, part_at};
 
 // The chip after a command of the bench, and how the command ended.
 fn after(chip: Chip, status: Status) -> Talk {
-    Talk {
-        mode: Mode::Bench,
-        chip,
-        status,
-    }
+    Talk::wants(Lines::Bench(chip), status)
 }
 
 fn told(rt: &impl Streams, m: Chip, body: Say) -> Talk {
@@ -29,111 +25,85 @@ fn told(rt: &impl Streams, m: Chip, body: Say) -> Talk {
         status: Status::Done,
         head: say_only(templates::NOTHING),
         body,
-        quote: NO_QUOTE,
+        quote: None,
     };
-    after(m, tell(rt, OUTPUT, message))
+    after(m, tell(rt, Stream::Output, message))
 }
 
-fn wrong(rt: &impl Streams, m: Chip, template: usize) -> Talk {
+fn wrong(rt: &impl Streams, m: Chip, template: &'static [u8]) -> Talk {
     after(m, output::wrong(rt, template))
 }
 
-fn refused(rt: &impl Streams, m: Chip, outcome: Outcome) -> Talk {
+fn refused(rt: &impl Streams, m: Chip, error: CallError) -> Talk {
     after(
         m,
-        tell(rt, OUTPUT, calls::of_outcome(templates::REFUSED, outcome)),
+        tell(
+            rt,
+            Stream::Output,
+            calls::of_error(templates::REFUSED, error),
+        ),
     )
 }
 
 fn digit(b: bool) -> u8 {
-    if b {
-        return b'1';
-    }
-    b'0'
+    b'0' + u8::from(b)
 }
 
-// The most frequent answers, those of beats and bursts, are made without a template.
+// A beat and a burst are asked most often, so their answers are made without a template.
 fn beat(rt: &impl Streams, m: Chip, pulse: bool) -> Talk {
     let t = chip::tick(m, pulse);
     let chip = t.chip;
-    let ended = t.ended;
-    let line = [
-        b'p',
-        b'i',
-        b'n',
-        b'=',
-        digit(t.pin),
-        b' ',
-        b'w',
-        b'o',
-        b'r',
-        b'd',
-        b's',
-        b'=',
-        digit(ended[0]),
-        b',',
-        digit(ended[1]),
-        b',',
-        digit(ended[2]),
-        b'\n',
-    ];
-    after(chip, made(rt, &line, 18))
+    let [one, two, three] = t.ended.map(digit);
+    let mut out = [0u8; 18];
+    let mut w = Writer::new(&mut out);
+    w.put_bytes(b"pin=");
+    w.put_byte(digit(t.pin));
+    w.put_bytes(b" words=");
+    w.put_bytes(&[one, b',', two, b',', three, b'\n']);
+    after(chip, made(rt, &w))
 }
 
 fn written(rt: &impl Streams, m: Chip, first: u16, bytes: &[u8]) -> Talk {
-    let w = chip::burst(m, first, bytes);
-    let outcome = w.outcome;
-    let chip = w.chip;
-    let Outcome::Success = outcome else {
-        return refused(rt, chip, outcome);
-    };
-    after(chip, made(rt, b"ok\n", 3))
+    match chip::burst(m, first, bytes) {
+        Ok(chip) => after(chip, write_bytes(rt, Stream::Output, b"ok\n", Status::Done)),
+        Err(error) => refused(rt, m, error),
+    }
 }
 
-// burst A B B ..: the register stands behind the first space.
-fn burst(rt: &impl Streams, m: Chip, line: &[u8]) -> Talk {
+fn burst(rt: &impl Streams, m: Chip, numbers: &[u8]) -> Talk {
     // a line has at most 65535 bytes, so no more numbers than this
     let mut bytes = [0u8; 32768];
-    let first = match read_decimal(part_at(line, 6, SPACE), 65_535) {
-        Decimal::Number(n) => (n % 65_536) as u16,
-        Decimal::Outside => return wrong(rt, m, templates::NO_REGISTER),
-        Decimal::Malformed => return wrong(rt, m, templates::NO_BURST),
-    };
-    match read_bytes(line, after_part(line, 6, SPACE), &mut bytes) {
-        Burst::Bytes(n) => written(rt, m, first, until(&bytes, n)),
-        Burst::Malformed => wrong(rt, m, templates::NO_BURST),
-        Burst::TooLarge => wrong(rt, m, templates::NO_BYTE),
+    match read_burst(numbers, &mut bytes) {
+        Ok(read) => written(rt, m, read.first, read.bytes),
+        Err(BurstError::Malformed) => wrong(rt, m, templates::NO_BURST),
+        Err(BurstError::NoRegister) => wrong(rt, m, templates::NO_REGISTER),
+        Err(BurstError::NoByte) => wrong(rt, m, templates::NO_BYTE),
     }
 }
 
 fn run(rt: &impl Streams, m: Chip, number: &[u8]) -> Talk {
-    let Number::Value(beats) = read_number(number, TOO_MANY) else {
+    // a let-else, since what is given is a Talk
+    let Some(beats) = read_number(number, TOO_MANY) else {
         return wrong(rt, m, templates::NO_RUN);
     };
-    let r = chip::run(m, beats);
-    let outcome = r.outcome;
-    let words = r.words;
-    let chip = r.chip;
-    let Outcome::Success = outcome else {
-        return refused(rt, chip, outcome);
-    };
-    told(rt, chip, calls::counts(r.beats, words, false))
+    match chip::run(m, beats) {
+        Ok(r) => told(rt, r.chip, calls::counts(r.beats, r.words, false)),
+        Err(error) => refused(rt, m, error),
+    }
 }
 
 fn interrupts(rt: &impl Streams, m: Chip) -> Talk {
     let r = chip::read_interrupts(m);
     let chip = r.chip;
-    let flags = r.flags;
-    let one = flags[0] as u32;
-    let two = flags[1] as u32;
-    let three = flags[2] as u32;
-    told(rt, chip, say_three(templates::INTERRUPTS, one, two, three))
+    let flags = r.flags.map(u32::from);
+    told(rt, chip, say_with(templates::INTERRUPTS, &flags))
 }
 
 fn state(rt: &impl Streams, m: Chip) -> Talk {
     let mut out = [0u8; ANSWER];
-    let n = put_chip(&mut out, 0, m);
-    after(m, made(rt, &out, n))
+    let mut w = Writer::new(&mut out);
+    put_chip(&mut w, m);
+    after(m, made(rt, &w))
 }
 
 fn memory(rt: &impl Streams, m: Chip) -> Talk {
@@ -141,46 +111,28 @@ fn memory(rt: &impl Streams, m: Chip) -> Talk {
     after(m, write_words(rt, &words))
 }
 
-// The places of the commands in their table. Those after the second stand alone.
-const BURST: usize = 0;
-
-const RUN: usize = 1;
-
-const INTERRUPTS: usize = 2;
-
-const STATE: usize = 3;
-
-const MEMORY: usize = 4;
-
-const HELP: usize = 5;
-
-const COMMANDS: usize = 7;
-
-// Every line but those of beats.
-fn other(rt: &impl Streams, m: Chip, line: &[u8]) -> Talk {
-    let name = part_at(line, 0, SPACE);
-    let place = place_of(b"burst run interrupts state memory help beat", name);
-    if place > RUN && place < COMMANDS && name.len() < line.len() {
-        return wrong(rt, m, templates::NOTHING_BEHIND);
-    }
-    match place {
-        BURST => burst(rt, m, line),
-        RUN => run(rt, m, from(line, 4)),
-        INTERRUPTS => interrupts(rt, m),
-        STATE => state(rt, m),
-        MEMORY => memory(rt, m),
-        HELP => told(rt, m, say_only(templates::BENCH_HELP)),
+// A line with more than a command's name.
+fn with_more(rt: &impl Streams, m: Chip, line: &[u8]) -> Talk {
+    let rest = from(line, after_part(line, 0, SPACE));
+    match part_at(line, 0, SPACE) {
+        b"burst" => burst(rt, m, rest),
+        b"run" => run(rt, m, rest),
+        b"beat" | b"interrupts" | b"state" | b"memory" | b"help" => {
+            wrong(rt, m, templates::NOTHING_BEHIND)
+        }
         _ => wrong(rt, m, templates::NO_BENCH_COMMAND),
     }
 }
 
 // One line's command on a chip.
 pub fn answer(rt: &impl Streams, m: Chip, line: &[u8]) -> Talk {
-    if same(line, b"beat") {
-        return beat(rt, m, false);
+    match line {
+        b"beat" => beat(rt, m, false),
+        b"beat pulse" => beat(rt, m, true),
+        b"interrupts" => interrupts(rt, m),
+        b"state" => state(rt, m),
+        b"memory" => memory(rt, m),
+        b"help" => told(rt, m, say_only(templates::BENCH_HELP)),
+        _ => with_more(rt, m, line),
     }
-    if same(line, b"beat pulse") {
-        return beat(rt, m, true);
-    }
-    other(rt, m, line)
 }

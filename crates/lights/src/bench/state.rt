@@ -1,147 +1,91 @@
 // The chip's state, as lines of pairs.
-use crate::sentences::filling::fill;
-use machine::{Chip, Engine, Exec, Mode, Output, Progress};
+use crate::sentences::filling::put_numbers;
+use machine::{Chip, Engine, Output};
+use text_bytes::Writer;
 use word::WORDS;
 
-// The places of the templates in the table, the most frequent first.
-const NEXT_OUTPUT: usize = 0;
+const CHIP: &[u8] = b"chip enable=% c=% d=% page=%\n";
 
-const COUNT: usize = 1;
+const ENGINE: &[u8] = b"engine=% mode=% run=% start=% pc=% a=% b=% mask=% ";
 
-const NEXT_COUNT: usize = 2;
-
-const NO_COUNT: usize = 3;
-
-const END: usize = 4;
-
-const OUTPUT: usize = 5;
-
-const CHIP: usize = 6;
-
-const ENGINE: usize = 7;
-
-const POSITION: usize = 8;
-
-// A template with these numbers.
-fn put(out: &mut [u8], at: usize, template: usize, numbers: [u32; 8]) -> usize {
-    let templates = b",%\0\
-%:%\0\
-,%:%\0\
-none\n\0\
-\n\0\
-outputs=%\0\
-chip enable=% c=% d=% page=%\n\0\
-engine=% mode=% run=% start=% pc=% a=% b=% mask=% \0\
-top=% bottom=% index=% pending=% interrupt=% fault=% midword=% counts=";
-    let none: &[u8] = b"";
-    fill(out, at, templates, template, numbers, none, none)
-}
+const POSITION: &[u8] = b"top=% bottom=% index=% pending=% interrupt=% fault=% midword=% ";
 
 fn settings(number: u32, e: Engine) -> [u32; 8] {
-    let mode = e.mode;
-    let exec = e.exec;
-    let mode_bits = match mode {
-        Mode::Disabled => 0,
-        Mode::Load => 1,
-        Mode::Run => 2,
-        Mode::Halt => 3,
-    };
-    let run_bits = match exec {
-        Exec::Hold => 0,
-        Exec::SingleStep => 1,
-        Exec::Free => 2,
-        Exec::Once => 3,
-    };
     [
         number,
-        mode_bits,
-        run_bits,
-        e.start.0 as u32,
-        e.pc.0 as u32,
-        e.a as u32,
-        e.b as u32,
-        e.mask as u32,
+        u32::from(e.mode.bits()),
+        u32::from(e.exec.bits()),
+        u32::from(e.start.0),
+        u32::from(e.pc.0),
+        u32::from(e.a),
+        u32::from(e.b),
+        u32::from(e.mask),
     ]
 }
 
-fn position(e: Engine) -> [u32; 8] {
+fn position(e: Engine) -> [u32; 7] {
     let table = e.table;
     let progress = e.progress;
-    let mid_word = if let Progress::BetweenWords = progress {
-        0
-    } else {
-        1
-    };
     [
-        table.top.0 as u32,
-        table.bottom.0 as u32,
-        table.index.0 as u32,
-        e.pending as u32,
-        e.interrupt as u32,
-        e.fault as u32,
-        mid_word,
-        0,
+        u32::from(table.top.0),
+        u32::from(table.bottom.0),
+        u32::from(table.index.0),
+        u32::from(e.pending),
+        u32::from(e.interrupt),
+        u32::from(e.fault),
+        u32::from(progress.is_mid_word()),
     ]
 }
 
 // The counts that aren't 0, and the end of the line.
-fn put_counts(out: &mut [u8], at: usize, counts: [u8; WORDS]) -> usize {
-    let mut next = at;
-    let mut template = COUNT;
-    let mut address: usize = 0;
-    while address < WORDS {
-        let count = counts[address];
-        let numbers = [address as u32, count as u32, 0, 0, 0, 0, 0, 0];
-        address += 1;
+fn put_counts(w: &mut Writer, counts: [u8; WORDS]) {
+    w.put_bytes(b"counts=");
+    if counts.iter().all(|&count| count == 0) {
+        return w.put_bytes(b"none\n");
+    }
+    let mut before: &[u8] = b"";
+    for (address, &count) in counts.iter().enumerate() {
         if count != 0 {
-            next = put(out, next, template, numbers);
-            template = NEXT_COUNT;
+            w.put_bytes(before);
+            w.put_decimal(address as u32);
+            w.put_byte(b':');
+            w.put_decimal(u32::from(count));
+            before = b",";
         }
     }
-    let end = if template == COUNT { NO_COUNT } else { END };
-    put(out, next, end, [0; 8])
+    w.put_byte(b'\n');
 }
 
-fn put_engine(out: &mut [u8], at: usize, number: u32, e: Engine) -> usize {
+fn put_engine(w: &mut Writer, number: u32, e: Engine) {
     let counts = e.loops;
-    let set = put(out, at, ENGINE, settings(number, e));
-    let placed = put(out, set, POSITION, position(e));
-    put_counts(out, placed, counts)
+    put_numbers(w, ENGINE, &settings(number, e));
+    put_numbers(w, POSITION, &position(e));
+    put_counts(w, counts);
 }
 
 // D1 to D9, then the GPO.
-fn put_outputs(out: &mut [u8], at: usize, outputs: [Output; 10]) -> usize {
-    let mut next = at;
-    let mut template = OUTPUT;
-    let mut k: usize = 0;
-    while k < 10 {
-        let output = outputs[k];
-        let numbers = [output.level as u32, 0, 0, 0, 0, 0, 0, 0];
-        next = put(out, next, template, numbers);
-        template = NEXT_OUTPUT;
-        k += 1;
+fn put_outputs(w: &mut Writer, outputs: [Output; 10]) {
+    let mut before: &[u8] = b"outputs=";
+    for output in outputs {
+        w.put_bytes(before);
+        w.put_decimal(u32::from(output.level));
+        before = b",";
     }
-    put(out, next, END, [0; 8])
+    w.put_byte(b'\n');
 }
 
-pub fn put_chip(out: &mut [u8], at: usize, m: Chip) -> usize {
+pub fn put_chip(w: &mut Writer, m: Chip) {
     let engines = m.engines;
     let outputs = m.outputs;
     let common = [
-        m.enabled as u32,
-        m.c as u32,
-        m.d as u32,
-        m.page as u32,
-        0,
-        0,
-        0,
-        0,
+        u32::from(m.enabled),
+        u32::from(m.c),
+        u32::from(m.d),
+        u32::from(m.page),
     ];
-    let mut next = put(out, at, CHIP, common);
-    let mut k: u32 = 0;
-    while k < 3 {
-        next = put_engine(out, next, k + 1, engines[k as usize]);
-        k += 1;
+    put_numbers(w, CHIP, &common);
+    for (number, engine) in (1..=3).zip(engines) {
+        put_engine(w, number, engine);
     }
-    put_outputs(out, next, outputs)
+    put_outputs(w, outputs);
 }

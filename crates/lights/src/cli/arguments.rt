@@ -1,81 +1,65 @@
-// The arguments of a command: those that the program was started with, or what stands between the
-// spaces of a line of standard input. They are numbered as a program's are: 1 is the command's name.
-use crate::texts::pieces::nth_place;
+// The arguments of a command. They are numbered as a program's are: 1 is the command's name.
 use std::env::{Env, FillError};
 use text::SPACE;
-use text_bytes::{after_part, part_at, put_bytes, until};
+use text_bytes::{Writer, until};
 
 #[derive(Clone, Copy)]
-pub enum Source {
+pub enum Arguments<'a> {
+    // those that the program was started with
     Program,
-    Line,
-}
-
-#[derive(Clone, Copy)]
-pub enum Argument {
-    // so many of the lent bytes
-    Bytes(usize),
-    // the lent bytes hold no more than its beginning
-    TooLong,
-    Missing,
-}
-
-// Argument k, into lent bytes. An empty line has none.
-pub fn take(rt: &impl Env, source: Source, line: &[u8], k: usize, into: &mut [u8]) -> Argument {
-    if let Source::Program = source {
-        return match rt.arg(k, into) {
-            Ok(n) => Argument::Bytes(n),
-            Err(FillError::TooLong) => Argument::TooLong,
-            Err(FillError::NotPresent) => Argument::Missing,
-        };
-    }
-    if k == 0 {
-        return Argument::Missing;
-    }
-    let at = nth_place(line, k - 1, SPACE);
-    if line.len() == 0 || at > line.len() {
-        return Argument::Missing;
-    }
-    let n = put_bytes(into, 0, part_at(line, at, SPACE));
-    if n <= into.len() {
-        return Argument::Bytes(n);
-    }
-    Argument::TooLong
-}
-
-// An argument's bytes, or as many of them as are there.
-pub fn bytes_of(argument: Argument, bytes: &[u8]) -> &[u8] {
-    match argument {
-        Argument::Bytes(n) => until(bytes, n),
-        Argument::TooLong => bytes,
-        Argument::Missing => until(bytes, 0),
-    }
+    // what stands between the spaces of a line of standard input
+    Line(&'a [u8]),
 }
 
 // How many arguments the program was started with, its own name among them.
 fn count_all(rt: &impl Env) -> usize {
-    let mut no_bytes: [u8; 0] = [];
-    for k in 0..usize::MAX {
-        if let Err(FillError::NotPresent) = rt.arg(k, &mut no_bytes) {
-            return k;
-        }
-    }
-    usize::MAX
+    (0..usize::MAX)
+        .find(|k| matches!(rt.arg(*k, &mut []), Err(FillError::NotPresent)))
+        .unwrap_or(usize::MAX)
 }
 
-// One more than the number of the last argument.
-pub fn count(rt: &impl Env, source: Source, line: &[u8]) -> usize {
-    if let Source::Program = source {
-        return count_all(rt);
+// Argument k of a line; an empty line has none.
+fn part(line: &[u8], k: usize) -> Result<&[u8], FillError> {
+    if k == 0 || line.is_empty() {
+        return Err(FillError::NotPresent);
     }
-    if line.len() == 0 {
-        return 1;
+    line.split(|b| *b == SPACE)
+        .nth(k - 1)
+        .ok_or(FillError::NotPresent)
+}
+
+impl Arguments<'_> {
+    // Argument k, into lent bytes: so many of them. If it is too long, they hold its beginning. A count, as
+    // `Env::arg` gives, since the callers use the bytes again where it is an error.
+    pub fn take(self, rt: &impl Env, k: usize, into: &mut [u8]) -> Result<usize, FillError> {
+        let line = match self {
+            Arguments::Program => return rt.arg(k, into),
+            Arguments::Line(line) => line,
+        };
+        let part = part(line, k)?;
+        Writer::new(into).put_bytes(part);
+        if part.len() > into.len() {
+            return Err(FillError::TooLong);
+        }
+        Ok(part.len())
     }
-    let mut n: usize = 1;
-    let mut at: usize = 0;
-    while at <= line.len() {
-        at = after_part(line, at, SPACE);
-        n += 1;
+
+    // Argument k, or as much of it as the lent bytes hold.
+    pub fn beginning<'b>(self, rt: &impl Env, k: usize, into: &'b mut [u8]) -> &'b [u8] {
+        let end = match self.take(rt, k, into) {
+            Ok(n) => n,
+            Err(FillError::TooLong) => into.len(),
+            Err(FillError::NotPresent) => 0,
+        };
+        until(into, end)
     }
-    n
+
+    // One more than the number of the last argument.
+    pub fn count(self, rt: &impl Env) -> usize {
+        match self {
+            Arguments::Program => count_all(rt),
+            Arguments::Line([]) => 1,
+            Arguments::Line(line) => 1 + line.split(|b| *b == SPACE).count(),
+        }
+    }
 }

@@ -1,7 +1,7 @@
 // Files and standard input, read whole into lent bytes.
-ghost use Rattle.std.specs.Prelude.{◌≤◌, length, ◌≡◌};
-
-use super::names::Kind;
+use super::names::{Kind, Name};
+use super::status::Status;
+use crate::sentences::say::{Message, line_of};
 use crate::sentences::templates;
 use std::fs;
 use std::io::Read;
@@ -10,69 +10,65 @@ use std::rt::Files;
 // So many bytes are lent for a file, a line, or an answer of many lines.
 pub const LARGE: usize = 65_536;
 
+// Why a file can't be used.
 #[derive(Clone, Copy)]
-pub enum File {
-    Bytes(usize),
-    // the bytes can't be used: the two templates of the line that says why
-    Unused(usize, usize),
+pub enum FileError {
+    // it can't be opened or read
+    Unreadable,
+    // it fills the lent bytes
+    TooLarge,
+    // standard input has the commands
+    HasCommands,
+    // standard input was read already
+    ReadAlready,
 }
 
-// What one read gives: `count` bytes, none at the end of the file.
-#[derive(Clone, Copy)]
-pub struct Got {
-    pub count: usize,
-    pub failed: bool,
-}
-
-pub fn read_some(from: &mut impl Read, rest: &mut [u8]) -> Got
-    ensures count_in_bounds { result.count ≤ length rest.new }
-    ensures rest_len_unchanged { length rest.new ≡ length rest.old }
-{
-    match from.read(rest) {
-        Ok(count) => Got {
-            count,
-            failed: false,
-        },
-        Err(_) => Got {
-            count: 0,
-            failed: true,
-        },
+impl From<FileError> for Message {
+    fn from(why: FileError) -> Message {
+        let (head, sentence) = match why {
+            FileError::Unreadable => (templates::NAMED, templates::UNREADABLE),
+            FileError::TooLarge => (templates::NAMED, templates::TOO_LARGE),
+            FileError::HasCommands => (templates::MALFORMED, templates::HAS_COMMANDS),
+            FileError::ReadAlready => (templates::MALFORMED, templates::READ_ALREADY),
+        };
+        line_of(Status::Failed, head, sentence)
     }
 }
 
-fn read_all(from: &mut impl Read, buf: &mut [u8]) -> File {
+// All bytes that come. Each program has its own, since their errors differ. A while: how far a read goes is
+// known only after it.
+fn read_all<'a>(from: &mut impl Read, buf: &'a mut [u8]) -> Result<&'a [u8], FileError> {
     let mut done: usize = 0;
     while done < buf.len() {
-        let got = read_some(from, &mut buf[done..]);
-        if got.failed {
-            return File::Unused(templates::NAMED, templates::UNREADABLE);
+        let count = from
+            .read(&mut buf[done..])
+            .map_err(|_| FileError::Unreadable)?;
+        if count == 0 {
+            return Ok(&buf[..done]);
         }
-        if got.count == 0 {
-            return File::Bytes(done);
-        }
-        done += got.count;
+        done += count;
     }
-    // it fills the lent bytes
-    File::Unused(templates::NAMED, templates::TOO_LARGE)
+    Err(FileError::TooLarge)
 }
 
 // A name that isn't UTF-8 can't be opened.
-fn read_file(rt: &impl Files, path: &[u8], buf: &mut [u8]) -> File {
-    let Ok(name) = str::from_utf8(path) else {
-        return File::Unused(templates::NAMED, templates::UNREADABLE);
-    };
-    let Ok(mut file) = fs::open(rt, name) else {
-        return File::Unused(templates::NAMED, templates::UNREADABLE);
-    };
+fn read_file<'a>(rt: &impl Files, path: &[u8], buf: &'a mut [u8]) -> Result<&'a [u8], FileError> {
+    let name = str::from_utf8(path).map_err(|_| FileError::Unreadable)?;
+    let mut file = fs::open(rt, name).map_err(|_| FileError::Unreadable)?;
     read_all(&mut file, buf)
 }
 
-pub fn read(rt: &(impl Files + Input), path: &[u8], kind: Kind, buf: &mut [u8]) -> File {
-    match kind {
-        Kind::File => read_file(rt, path, buf),
+// A file's bytes, in lent ones.
+pub fn read<'a>(
+    rt: &(impl Files + Input),
+    name: Name,
+    buf: &'a mut [u8],
+) -> Result<&'a [u8], FileError> {
+    match name.kind {
+        Kind::File => read_file(rt, name.path, buf),
         Kind::Input => read_all(&mut rt.reader(), buf),
-        Kind::Taken => File::Unused(templates::MALFORMED, templates::HAS_COMMANDS),
-        Kind::Read => File::Unused(templates::MALFORMED, templates::READ_ALREADY),
-        Kind::TooLong => File::Unused(templates::NAMED, templates::UNREADABLE),
+        Kind::Taken => Err(FileError::HasCommands),
+        Kind::Read => Err(FileError::ReadAlready),
+        Kind::TooLong => Err(FileError::Unreadable),
     }
 }

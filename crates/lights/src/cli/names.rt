@@ -1,8 +1,7 @@
 // The names of files, as arguments give them.
-use super::arguments;
-use super::arguments::{Argument, Source};
+use super::arguments::Arguments;
 use std::env::Env;
-use text_bytes::{put_bytes, same, until};
+use text_bytes::until;
 
 // The most bytes that a name has.
 pub const LONGEST: usize = 4096;
@@ -23,38 +22,36 @@ pub enum Kind {
     TooLong,
 }
 
-// A name has so many of the lent bytes. In place of one that is too long its first bytes and `..` stand
-// there.
+// In place of a path that is too long its first bytes and `..` stand.
 #[derive(Clone, Copy)]
-pub struct Name {
-    pub length: usize,
+pub struct Name<'a> {
+    pub path: &'a [u8],
     pub kind: Kind,
 }
 
-// Argument k, which is there, as a name; `dash` is what `-` is among the program's arguments.
-pub fn take(
-    rt: &impl Env,
-    source: Source,
-    line: &[u8],
-    k: usize,
-    dash: Kind,
-    bytes: &mut [u8],
-) -> Name {
-    let Argument::Bytes(length) = arguments::take(rt, source, line, k, bytes) else {
-        return Name {
-            length: put_bytes(bytes, SHOWN, b".."),
-            kind: Kind::TooLong,
+impl<'a> Name<'a> {
+    // Argument k, which is there, as a name in lent bytes; `dash` is what `-` is among the program's
+    // arguments.
+    pub fn take(
+        rt: &impl Env,
+        arguments: Arguments,
+        k: usize,
+        dash: Kind,
+        bytes: &'a mut [u8; LONGEST],
+    ) -> Name<'a> {
+        let Ok(length) = arguments.take(rt, k, bytes) else {
+            bytes[SHOWN..SHOWN + 2].copy_from_slice(b"..");
+            return Name {
+                path: &bytes[..SHOWN + 2],
+                kind: Kind::TooLong,
+            };
         };
-    };
-    if !same(until(bytes, length), b"-") {
-        return Name {
-            length,
-            kind: Kind::File,
+        let path = until(bytes, length);
+        let kind = match (path, arguments) {
+            (b"-", Arguments::Program) => dash,
+            (b"-", Arguments::Line(_)) => Kind::Taken,
+            _ => Kind::File,
         };
+        Name { path, kind }
     }
-    let kind = match source {
-        Source::Program => dash,
-        Source::Line => Kind::Taken,
-    };
-    Name { length, kind }
 }

@@ -1,6 +1,8 @@
 // How a command ended, as the exit status gives it.
+ghost use Rattle.std.specs.Iterator.{IsFinite};
 
-#[derive(Clone, Copy)]
+// Each is worse than those before it.
+#[derive(Clone, Copy, PartialEq, Eq, PartialOrd, Ord)]
 pub enum Status {
     Done,
     // something was refused
@@ -13,17 +15,23 @@ pub enum Status {
     Unread,
 }
 
-pub fn worse(a: Status, b: Status) -> Status {
-    match a {
-        Status::Done => b,
-        Status::Refused => match b {
-            Status::Done => a,
-            Status::Refused | Status::Failed | Status::Lost | Status::Unread => b,
-        },
-        Status::Failed => match b {
-            Status::Done | Status::Refused | Status::Failed => a,
-            Status::Lost | Status::Unread => b,
-        },
-        Status::Lost | Status::Unread => a,
+impl Status {
+    // Whether the program stops.
+    pub fn stops(self) -> bool {
+        self >= Status::Lost
     }
+}
+
+// The worst of what commands give that are done one by one, as far as the program doesn't stop.
+pub fn worst<A: Iterator<Item = Status>>(answers: A) -> Status
+    requires { A.Iterator.can_next answers × IsFinite (A.Iterator.remaining answers) }
+{
+    let mut worst = Status::Done;
+    for status in answers {
+        worst = worst.max(status);
+        if worst.stops() {
+            return worst;
+        }
+    }
+    worst
 }

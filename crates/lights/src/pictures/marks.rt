@@ -1,53 +1,104 @@
-// The round moments at which a time scale has its marks.
-ghost use Rattle.std.specs.Prelude.{◌+◌, ◌*◌, ◌<◌, ◌≤◌};
+// The marks of a time scale, at round moments.
+ghost use Rattle.std.specs.Prelude.{◌+◌, ◌-◌, ◌*◌, ◌≤◌};
+ghost use Rattle.std.specs.Iterator.{at_most};
 
+use super::span::Span;
 use super::steps::Step;
-use super::{steps, times};
+use super::times;
+use super::times::Time;
 
-// Multiples of a step, from the first on.
+// A mark, and where it lies in the picture: so many 625ths of a beat from its begin.
 #[derive(Clone, Copy)]
-pub struct Marks {
-    pub first: u64,
-    pub step: u64,
-    pub unit: u64,
+pub struct Mark {
+    pub span: Span,
+    pub time: Time,
+    pub place: u64,
+    ghost place_bound: { place ≤ span.beats * 625 },
 }
 
-// The first multiple of a step that is not before a moment.
-fn multiple_from(moment: u64, step: u64) -> u64
-    requires { (moment ≤ 50000000000) × (1 ≤ step) × (step ≤ 500000000000) }
-    ensures { moment ≤ result }
-{
-    let past = moment % step;
-    if past == 0 {
-        return moment;
-    }
-    moment + (step - past)
+// The first mark, and the step to the next ones.
+#[derive(Clone, Copy)]
+struct First {
+    moment: u64,
+    step: Step,
 }
 
-// The marks from a beat on and before a moment. Their step is the finest of which `most` reach as far
+// The first mark from a beat on and before a moment. The step is the finest of which `most` reach as far
 // as so many beats; a finer one where this has no mark.
-pub(super) fn marks_in(from: u64, end: u64, beats: u64, most: u64) -> Marks
-    requires { (from ≤ 8589934590) × (beats ≤ 8589934590) × (1 ≤ most) × (most ≤ 9) }
-    ensures { (from * 625 ≤ result.first * 128) × (1 ≤ result.step) × (result.step ≤ 500000000000) × (1 ≤ result.unit) }
+fn first_of(from: u32, end: u64, beats: u64, most: u64) -> First
+    requires { (beats ≤ 8589934590) × (1 ≤ most) × (most ≤ 9) }
+    ensures { from * 625 ≤ result.moment * 128 }
 {
-    let begin = times::moment_of(from);
+    let begin = times::moment_of(u64::from(from));
     let length = times::moment_of(beats);
     let mut step = Step { size: 1, unit: 1 };
-    let mut marks = Marks {
-        first: begin,
-        step: 1,
-        unit: 1,
+    let mut first = First {
+        moment: begin,
+        step,
     };
+    // no index is counted: the step grows until few enough reach as far
     while step.size * most < length {
-        step = steps::coarser(step);
-        let first = multiple_from(begin, step.size);
-        if first < end {
-            marks = Marks {
-                first,
-                step: step.size,
-                unit: step.unit,
-            };
+        step = step.coarser();
+        let moment = begin.next_multiple_of(step.size);
+        if moment < end {
+            first = First { moment, step };
         }
     }
-    marks
+    first
+}
+
+// The marks from one on and before a moment.
+#[derive(Clone, Copy, Drop)]
+pub struct Marks {
+    span: Span,
+    next: u64,
+    end: u64,
+    step: Step,
+    ghost begin_bound: { span.from * 625 ≤ next * 128 },
+    ghost end_bound: { end * 128 ≤ (span.from + span.beats) * 625 + 128 },
+}
+
+impl Marks {
+    // Those of a picture, before a moment: of so many beats, at most so many.
+    pub(super) fn new(span: Span, end: u64, beats: u64, most: u64) -> Marks
+        requires most_bound { (beats ≤ 8589934590) × (1 ≤ most) × (most ≤ 9) }
+        requires end_bound { end * 128 ≤ (span.from + span.beats) * 625 + 128 }
+    {
+        let first = first_of(span.from, end, beats, most);
+        Marks {
+            span,
+            next: first.moment,
+            end,
+            step: first.step,
+        }
+    }
+}
+
+impl Iterator for Marks {
+    type Item = Mark;
+
+    ghost remaining = { λ m. at_most (m.end - m.next) };
+
+    fn next(&mut self) -> Option<Mark> {
+        let span = self.span;
+        let moment = self.next;
+        if moment >= self.end {
+            return None;
+        }
+        let step = self.step;
+        *self = Marks {
+            span,
+            next: moment + step.size,
+            end: self.end,
+            step,
+        };
+        Some(Mark {
+            span,
+            time: Time {
+                moment,
+                unit: step.unit,
+            },
+            place: moment * 128 - u64::from(span.from) * 625,
+        })
+    }
 }

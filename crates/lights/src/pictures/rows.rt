@@ -1,40 +1,37 @@
 // show: a row of shades for each output, time from left to right, with a scale below.
-ghost use Rattle.std.specs.Prelude.{◌<◌, ◌≤◌};
-
 use super::levels::Levels;
-use super::{columns, levels, names, scale};
-use crate::texts::pieces::nth;
-use machine::Chip;
-use text_bytes::{put_byte, put_bytes};
+use super::names::NAMES;
+use super::scale;
+use super::span::{IN_A_ROW, LABEL, Span};
+use crate::sheets::runs::View;
+use text_bytes::Writer;
 
-// From dark to full.
+// From dark to full. A table, since the characters' codes have no order of their own.
 const SHADES: [u8; 10] = *b" .:-=+*#%@";
 
-// Output k's label, its shades and a bar.
-fn put_row(out: &mut [u8], at: usize, levels: &Levels, count: u64, k: usize) -> usize
-    requires { (count ≤ 480) × (k < 10) }
-{
-    let mut next = put_bytes(out, at, nth(&names::LABELS, k, 0));
-    let mut i: u64 = 0;
-    while i < count {
-        // ten shades from dark to full, rounded up
-        let level = levels::level_at(levels, i, k);
-        next = put_byte(out, next, SHADES[(level as usize * 9 + 254) / 255]);
-        i += 1;
-    }
-    put_bytes(out, next, b"|\n")
+// An output's name, spaces and a bar.
+fn put_label(w: &mut Writer, name: &[u8]) {
+    w.put_bytes(name);
+    scale::put_spaces(w, (LABEL - 1).saturating_sub(name.len()));
+    w.put_byte(b'|');
 }
 
-pub fn show(out: &mut [u8], m: Chip, from: u32, beats: u32) -> usize {
-    let mut levels = [0u8; 4800];
-    let n = beats as u64;
-    let count = columns::count_of(n, columns::IN_A_ROW);
-    levels::sample(m, from, n, count, &mut levels);
-    let mut next: usize = 0;
-    let mut k: usize = 0;
-    while k < names::OUTPUTS {
-        next = put_row(out, next, &levels, count, k);
-        k += 1;
+// An output's label, its shades and a bar.
+fn put_row(w: &mut Writer, name: &[u8], levels: &[u8]) {
+    put_label(w, name);
+    for &level in levels {
+        // ten shades from dark to full, rounded up
+        let shade = (usize::from(level) * 9).div_ceil(255);
+        w.put_byte(SHADES[shade]);
     }
-    scale::put_scale(out, next, from as u64, n, count)
+    w.put_bytes(b"|\n");
+}
+
+pub fn show(w: &mut Writer, view: View) {
+    let span = Span::new(view.from, view.beats, IN_A_ROW);
+    let levels = Levels::sample(view.chip, span);
+    for (name, row) in NAMES.iter().zip(&levels.rows) {
+        put_row(w, name, &row[..levels.columns]);
+    }
+    scale::put_scale(w, span);
 }

@@ -6,28 +6,32 @@ pub struct Step {
     pub size: u64,
     // the power of ten that it is a multiple of
     pub unit: u64,
+    ghost unit_bound: { 1 ≤ unit },
+    ghost size_bound: { (unit ≤ size) × (size < 10 * unit) × (size ≤ 500000000000) },
 }
 
-// The next coarser step.
-pub(super) fn coarser(s: Step) -> Step
-    requires { (1 ≤ s.unit) × (s.unit ≤ s.size) × (s.size < 10 * s.unit) × (s.size ≤ 50000000000) }
-    ensures { (1 ≤ result.unit) × (result.unit ≤ result.size) × (result.size < 10 * result.unit) × (s.size < result.size) × (result.size ≤ 500000000000) }
-{
-    let unit = s.unit;
-    if s.size == unit {
-        return Step {
-            size: 2 * unit,
-            unit,
-        };
-    }
-    if s.size == 2 * unit {
-        return Step {
-            size: 5 * unit,
-            unit,
-        };
-    }
-    Step {
-        size: 10 * unit,
-        unit: 10 * unit,
+impl Step {
+    // The next coarser step.
+    pub(super) fn coarser(self) -> Step
+        requires { self.size ≤ 50000000000 }
+        ensures { self.size < result.size }
+    {
+        let unit = self.unit;
+        if self.size == unit {
+            return Step {
+                size: 2 * unit,
+                unit,
+            };
+        }
+        if self.size == 2 * unit {
+            return Step {
+                size: 5 * unit,
+                unit,
+            };
+        }
+        Step {
+            size: 10 * unit,
+            unit: 10 * unit,
+        }
     }
 }

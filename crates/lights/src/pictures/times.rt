@@ -3,7 +3,7 @@
 // is below 50,000,000,000 moments.
 ghost use Rattle.std.specs.Prelude.{◌+◌, ◌*◌, ◌<◌, ◌≤◌};
 
-use text_bytes::{put_byte, put_decimal};
+use text_bytes::Writer;
 
 const SECOND: u64 = 10_000;
 
@@ -12,19 +12,37 @@ pub(super) fn moment_of(beat: u64) -> u64
     requires { beat ≤ 8589934590 }
     ensures { (beat * 625 ≤ result * 128) × (result * 128 < beat * 625 + 128) × (result ≤ 50000000000) }
 {
-    (beat * 625 + 127) / 128
+    (beat * 625).div_ceil(128)
 }
 
-// A moment in seconds, with as many digits as a multiple of the unit, a power of ten, needs.
-pub(super) fn put_time(out: &mut [u8], at: usize, moment: u64, unit: u64) -> usize
-    requires { (moment ≤ 50000000000) × (1 ≤ unit) }
-{
-    let whole = put_decimal(out, at, (moment / SECOND) as u32);
-    if unit >= SECOND {
-        return whole;
+// A moment that is a multiple of a unit, which is a power of ten.
+#[derive(Clone, Copy)]
+pub struct Time {
+    pub moment: u64,
+    pub unit: u64,
+    ghost moment_bound: { moment ≤ 50000000000 },
+    ghost unit_bound: { 1 ≤ unit },
+}
+
+impl Time {
+    // In seconds, with as many digits as a multiple of the unit needs.
+    pub(super) fn put(self, w: &mut Writer) {
+        w.put_decimal((self.moment / SECOND) as u32);
+        if self.unit >= SECOND {
+            return;
+        }
+        w.put_byte(b'.');
+        for place in [1000, 100, 10, 1] {
+            if place >= self.unit {
+                w.put_byte(b'0' + (self.moment / place % 10) as u8);
+            }
+        }
     }
-    // a one before the digits keeps their zeros, and the point takes its place
-    let end = put_decimal(out, whole, ((SECOND + moment % SECOND) / unit) as u32);
-    put_byte(out, whole, b'.');
-    end
+
+    // How many bytes that is.
+    pub(super) fn length(self) -> usize {
+        let mut w = Writer::new(&mut []);
+        self.put(&mut w);
+        w.at()
+    }
 }

@@ -1,24 +1,19 @@
 // Any bytes as a text of XML.
 use super::patterns;
-use super::patterns::put_piece;
-use text_bytes::put_byte;
+use crate::sentences::filling::put_numbers;
+use crate::sentences::shown::printable;
+use text_bytes::Writer;
 
-fn put_escaped(out: &mut [u8], at: usize, b: u8) -> usize {
+fn put_escaped(w: &mut Writer, b: u8) {
     match b {
         // bytes with a meaning in XML, by their number
-        b'&' | b'<' | b'>' | b'"' => put_piece(out, at, patterns::ESCAPED, b as u32, 0),
-        // control bytes
-        0..=31 | 127 => put_byte(out, at, b'?'),
-        _ => put_byte(out, at, b),
+        b'&' | b'<' | b'>' | b'"' => put_numbers(w, patterns::ESCAPED, &[u32::from(b)]),
+        _ => w.put_byte(printable(b)),
     }
 }
 
-pub fn put_text(out: &mut [u8], at: usize, text: &[u8]) -> usize {
-    let mut next = at;
-    let mut i = 0;
-    while i < text.len() {
-        next = put_escaped(out, next, text[i]);
-        i += 1;
+pub fn put_text(w: &mut Writer, text: &[u8]) {
+    for &b in text {
+        put_escaped(w, b);
     }
-    next
 }

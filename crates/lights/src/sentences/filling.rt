@@ -1,63 +1,44 @@
 // Templates, filled in.
-ghost use Rattle.std.specs.Prelude.{◌<◌};
+use super::say::Part;
+use super::shown::{printable, put_changed};
+use super::values::{VALUES, put_allowed, put_keys, put_pairs};
+use text_bytes::Writer;
 
-use super::shown::{How, put_changed};
-use super::tables::put_name;
-use super::values::{KEYS, PAIRS, VALUES, put_allowed, put_pairs};
-use crate::texts::pieces::nth;
-use text_bytes::{put_byte, put_bytes, put_decimal};
-
-// Stands between two templates.
-const NUL: u8 = 0;
-
-// The place of the next sign's number, after a byte whose own would be the one at `place`. No template
-// has more than eight; a ninth would have the eighth's.
-fn next_place(place: usize, b: u8) -> usize
-    requires { place < 8 }
-    ensures { result < 8 }
-{
-    if place == 7 {
-        return place;
-    }
-    match b {
-        b'%' | b'$' | b'*' | b'~' | b'@' => place + 1,
-        _ => place,
+fn put_part(w: &mut Writer, part: Part) {
+    match part {
+        Part::Number(n) => w.put_decimal(n),
+        Part::Name(name) => w.put_bytes(name),
+        Part::Keys(form) => put_keys(w, form),
+        Part::Pairs(form) => put_pairs(w, form),
+        Part::Allowed(kind) => put_allowed(w, kind, VALUES),
     }
 }
 
-// A sign or another byte; `n` is the next number.
-fn put_next(out: &mut [u8], at: usize, b: u8, n: u32, quote: &[u8], name: &[u8]) -> usize {
-    match b {
-        b'%' => put_decimal(out, at, n),
-        b'$' => put_name(out, at, n),
-        b'*' => put_pairs(out, at, n, KEYS),
-        b'~' => put_allowed(out, at, n, VALUES),
-        b'@' => put_pairs(out, at, n, PAIRS),
-        b'!' => put_bytes(out, at, quote),
-        b'^' => put_changed(out, at, name, How::Printable),
-        _ => put_byte(out, at, b),
-    }
-}
-
-// A template of a table, in which NULs stand between them.
-pub fn fill(
-    out: &mut [u8],
-    at: usize,
-    table: &[u8],
-    place: usize,
-    numbers: [u32; 8],
+// A template, its signs replaced: `%` by the next part, `!` by the quote, and `^` by the name of a file
+// or a command. No Display: names and quotes are bytes, which need not be text.
+pub fn fill<T: Copy + Into<Part>>(
+    w: &mut Writer,
+    template: &[u8],
+    parts: &[T],
     quote: &[u8],
     name: &[u8],
-) -> usize {
-    let template = nth(table, place, NUL);
-    let mut next = at;
-    let mut number = 0;
-    let mut i = 0;
-    while i < template.len() {
-        let b = template[i];
-        next = put_next(out, next, b, numbers[number], quote, name);
-        number = next_place(number, b);
-        i += 1;
+) {
+    let mut parts = parts.iter();
+    for &b in template {
+        match b {
+            b'%' => {
+                if let Some(&part) = parts.next() {
+                    put_part(w, part.into());
+                }
+            }
+            b'!' => w.put_bytes(quote),
+            b'^' => put_changed(w, name, printable),
+            _ => w.put_byte(b),
+        }
     }
-    next
+}
+
+// A template that has numbers only.
+pub fn put_numbers(w: &mut Writer, template: &[u8], numbers: &[u32]) {
+    fill(w, template, numbers, b"", b"");
 }

@@ -1,13 +1,35 @@
-// What is told, as a value: templates by their places in the table, and what stands in them.
+// What is told, as a value: templates, and what stands in them.
+use super::filling::fill;
+use super::shown::Quote;
 use crate::cli::status::Status;
-use crate::sentences::shown::{NO_QUOTE, Quote};
-use crate::sentences::templates;
+use grammar::{Kind, Pair};
+use text_bytes::Writer;
 
-// A template, and the numbers for its signs in their order.
+// What stands for a sign of a template.
+#[derive(Clone, Copy)]
+pub enum Part {
+    Number(u32),
+    Name(&'static [u8]),
+    // the keys of a form
+    Keys(&'static [Pair]),
+    // the pairs of a form, with the values that they allow
+    Pairs(&'static [Pair]),
+    // the values that a kind allows
+    Allowed(Kind),
+}
+
+impl From<u32> for Part {
+    fn from(n: u32) -> Part {
+        Part::Number(n)
+    }
+}
+
+// A template, and the parts for its signs in their order; no template has more than eight, and the parts
+// behind the last sign are not used.
 #[derive(Clone, Copy)]
 pub struct Say {
-    pub template: usize,
-    pub numbers: [u32; 8],
+    pub template: &'static [u8],
+    pub parts: [Part; 8],
 }
 
 // A line: how the command ends that prints it, what stands before its sentence, and the sentence.
@@ -16,44 +38,33 @@ pub struct Message {
     pub status: Status,
     pub head: Say,
     pub body: Say,
-    pub quote: Quote,
+    // what `!` stands for, where a template has it
+    pub quote: Option<Quote>,
 }
 
-pub fn say_only(template: usize) -> Say {
+pub fn say_only(template: &'static [u8]) -> Say {
     Say {
         template,
-        numbers: [0; 8],
+        parts: [Part::Number(0); 8],
     }
 }
 
-pub fn say_one(template: usize, a: u32) -> Say {
-    Say {
-        template,
-        numbers: [a, 0, 0, 0, 0, 0, 0, 0],
+// A template with these parts, or numbers; there is room for eight.
+pub fn say_with<T: Copy + Into<Part>>(template: &'static [u8], given: &[T]) -> Say {
+    let mut say = say_only(template);
+    for (part, &given) in say.parts.iter_mut().zip(given) {
+        *part = given.into();
     }
-}
-
-pub fn say_two(template: usize, a: u32, b: u32) -> Say {
-    Say {
-        template,
-        numbers: [a, b, 0, 0, 0, 0, 0, 0],
-    }
-}
-
-pub fn say_three(template: usize, a: u32, b: u32, c: u32) -> Say {
-    Say {
-        template,
-        numbers: [a, b, c, 0, 0, 0, 0, 0],
-    }
+    say
 }
 
 // Two templates without numbers.
-pub fn line_of(status: Status, head: usize, sentence: usize) -> Message {
+pub fn line_of(status: Status, head: &'static [u8], sentence: &'static [u8]) -> Message {
     Message {
         status,
         head: say_only(head),
         body: say_only(sentence),
-        quote: NO_QUOTE,
+        quote: None,
     }
 }
 
@@ -62,6 +73,29 @@ pub fn refused(head: Say, body: Say) -> Message {
         status: Status::Refused,
         head,
         body,
-        quote: NO_QUOTE,
+        quote: None,
     }
+}
+
+// A template, filled in.
+pub fn put_say(w: &mut Writer, say: Say, quote: &[u8], name: &[u8]) {
+    fill(w, say.template, &say.parts, quote, name);
+}
+
+impl Message {
+    // The bytes that `!` stands for.
+    fn quoted(&self) -> &[u8] {
+        match &self.quote {
+            Some(quote) => quote.text(),
+            None => b"",
+        }
+    }
+}
+
+// A line about a file or a command with this name.
+pub fn put_message(w: &mut Writer, message: &Message, name: &[u8]) {
+    let quote = message.quoted();
+    put_say(w, message.head, quote, name);
+    put_say(w, message.body, quote, name);
+    w.put_byte(b'\n');
 }

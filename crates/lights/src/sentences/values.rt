@@ -1,116 +1,125 @@
-// The values that a kind allows, and lists, with the marks of a style between them.
+// The values that a kind allows, and lists, with what a style puts between them.
 ghost use Rattle.std.specs.Prelude.{◌<◌};
 
-use super::tables::{
-    NUMBER_KINDS, Ranges, Stretch, pair_at, pairs_of, put_name, ranges_of, words_of,
+use grammar::{ANSWERS, Kind, Pair, Range};
+use text_bytes::Writer;
+
+// What stands before the first item of a list, between items, and before the last item.
+#[derive(Clone, Copy)]
+struct Marks {
+    first: &'static [u8],
+    between: &'static [u8],
+    last: &'static [u8],
+}
+
+// What stands about words, between the ends of a range, and between two ranges.
+#[derive(Clone, Copy)]
+pub struct Style {
+    words: Marks,
+    to: &'static [u8],
+    or: &'static [u8],
+}
+
+// Keys in a sentence.
+const KEYS: Marks = Marks {
+    first: b"",
+    between: b", ",
+    last: b" and ",
 };
-use crate::texts::pieces::nth;
-use text::LINE_FEED;
-use text_bytes::{put_byte, put_bytes, put_decimal};
 
-// The marks of a style: what stands before the first item of a list, between items, before the last item,
-// between the ends of a range, and between two ranges.
-const FIRST: usize = 0;
+// Values in a sentence.
+pub const VALUES: Style = Style {
+    words: Marks {
+        first: b"",
+        between: b", ",
+        last: b" or ",
+    },
+    to: b" to ",
+    or: b" or ",
+};
 
-const BETWEEN: usize = 1;
+// The pairs of an op line.
+const PAIRS: Marks = Marks {
+    first: b" ",
+    between: b" ",
+    last: b" ",
+};
 
-const LAST: usize = 2;
+// Their values.
+const PAIR_VALUES: Style = Style {
+    words: Marks {
+        first: b"",
+        between: b"/",
+        last: b"/",
+    },
+    to: b"..",
+    or: b",",
+};
 
-const TO: usize = 3;
-
-const OR: usize = 4;
-
-// The styles, by the place of their first mark: keys in a sentence, values in a sentence, and the pairs of
-// an op line with their values.
-pub const KEYS: usize = 0;
-
-pub const VALUES: usize = 5;
-
-pub const PAIRS: usize = 10;
-
-const PAIR_VALUES: usize = 15;
-
-// A line for each mark.
-const MARKS: [u8; 48] = *b"\n, \n and \n\n\n\
-\n, \n or \n to \n or \n\
-\x20\n \n \n\n\n\
-\n/\n/\n..\n,";
-
-fn put_mark(out: &mut [u8], at: usize, mark: usize) -> usize {
-    put_bytes(out, at, nth(&MARKS, mark, LINE_FEED))
+fn put_range(w: &mut Writer, range: Range, to: &[u8]) {
+    w.put_decimal(u32::from(range.least));
+    if range.least != range.most {
+        w.put_bytes(to);
+        w.put_decimal(u32::from(range.most));
+    }
 }
 
-fn put_range(out: &mut [u8], at: usize, low: u32, high: u32, to: usize) -> usize {
-    let first = put_decimal(out, at, low);
-    if low == high {
-        return first;
+fn put_ranges(w: &mut Writer, ranges: &[Range], style: Style) {
+    let mut before: &[u8] = b"";
+    for &range in ranges {
+        w.put_bytes(before);
+        put_range(w, range, style.to);
+        before = style.or;
     }
-    let next = put_mark(out, first, to);
-    put_decimal(out, next, high)
 }
 
-fn put_ranges(out: &mut [u8], at: usize, r: Ranges, style: usize) -> usize
-    requires { style < 16 }
-{
-    let first = put_range(out, at, r.low, r.high, style + TO);
-    if r.low == r.also_low {
-        return first;
-    }
-    let next = put_mark(out, first, style + OR);
-    put_range(out, next, r.also_low, r.also_high, style + TO)
-}
-
-// The mark that stands before an item of a list.
-fn mark(i: u32, list: Stretch, style: usize) -> usize
-    requires { (i < list.to) × (style < 16) }
-{
-    if i == list.from {
-        return style + FIRST;
-    }
-    if i < list.to - 1 {
-        return style + BETWEEN;
-    }
-    style + LAST
-}
-
-fn put_words(out: &mut [u8], at: usize, words: Stretch, style: usize) -> usize
-    requires { style < 16 }
-{
-    let mut next = at;
-    let mut i = words.from;
-    while i < words.to {
-        next = put_mark(out, next, mark(i, words, style));
-        next = put_name(out, next, i);
-        i += 1;
-    }
-    next
-}
-
-pub(super) fn put_allowed(out: &mut [u8], at: usize, kind: u32, style: usize) -> usize
-    requires { style < 16 }
-{
-    if kind < NUMBER_KINDS {
-        return put_ranges(out, at, ranges_of(kind), style);
-    }
-    put_words(out, at, words_of(kind), style)
-}
-
-// The keys of an op, each with an equals sign, and with its values where the style is that of an op line.
-pub(super) fn put_pairs(out: &mut [u8], at: usize, op: u32, style: usize) -> usize
-    requires { style < 16 }
-{
-    let pairs = pairs_of(op);
-    let mut next = at;
-    let mut i = pairs.from;
-    while i < pairs.to {
-        let pair = pair_at(i);
-        next = put_mark(out, next, mark(i, pairs, style));
-        next = put_name(out, next, pair.key);
-        next = put_byte(out, next, b'=');
-        i += 1;
-        if style == PAIRS {
-            next = put_allowed(out, next, pair.kind, PAIR_VALUES);
+impl Marks {
+    // What stands before item i of so many.
+    fn before(self, i: usize, count: usize) -> &'static [u8]
+        requires { i < count }
+    {
+        if i == 0 {
+            self.first
+        } else if i + 1 < count {
+            self.between
+        } else {
+            self.last
         }
     }
-    next
+}
+
+fn put_words(w: &mut Writer, words: &[&[u8]], marks: Marks) {
+    for (i, word) in words.iter().enumerate() {
+        w.put_bytes(marks.before(i, words.len()));
+        w.put_bytes(word);
+    }
+}
+
+pub(super) fn put_allowed(w: &mut Writer, kind: Kind, style: Style) {
+    match kind {
+        Kind::Number(ranges) => put_ranges(w, ranges, style),
+        Kind::Keyword(words) => put_words(w, words, style.words),
+        Kind::Decision => put_words(w, ANSWERS, style.words),
+    }
+}
+
+// The keys of a form, each with an equals sign and with its values where they have a style.
+fn put_list(w: &mut Writer, form: &[Pair], marks: Marks, values: Option<Style>) {
+    for (i, pair) in form.iter().enumerate() {
+        w.put_bytes(marks.before(i, form.len()));
+        w.put_bytes(pair.key);
+        w.put_byte(b'=');
+        if let Some(style) = values {
+            put_allowed(w, pair.kind, style);
+        }
+    }
+}
+
+pub(super) fn put_keys(w: &mut Writer, form: &[Pair]) {
+    put_list(w, form, KEYS, None);
+}
+
+// As an op line has them.
+pub(super) fn put_pairs(w: &mut Writer, form: &[Pair]) {
+    put_list(w, form, PAIRS, Some(PAIR_VALUES));
 }

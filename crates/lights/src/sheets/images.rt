@@ -1,22 +1,19 @@
 // sheet: an image from a file, with a plan from arguments, written as a sheet.
-ghost use Rattle.std.specs.Prelude.{◌*◌, ◌+◌, ◌≤◌, ◌<◌, length};
-
 use super::plans;
-use super::plans::Planned;
-use crate::cli::arguments::{Argument, Source};
-use crate::cli::files::{File, LARGE};
-use crate::cli::names::Kind;
-use crate::cli::numbers::{Hex, read_hex};
-use crate::cli::output::{ERROR, made, misread, tell_of};
+use crate::cli::arguments::Arguments;
+use crate::cli::files;
+use crate::cli::files::LARGE;
+use crate::cli::names::Name;
+use crate::cli::numbers::read_hex;
+use crate::cli::output::{Stream, misread, write_bytes};
 use crate::cli::status::Status;
-use crate::cli::system::{Host, Streams};
-use crate::cli::{arguments, files};
-use crate::sentences::say::{line_of, refused, say_one, say_only};
+use crate::cli::system::Host;
+use crate::sentences::say::{Message, line_of, refused, say_only, say_with};
 use crate::sentences::templates;
-use crate::sentences::verdicts::{Origin, of_verdict};
+use crate::sentences::verdicts::{Origin, of_error};
 use crate::texts::words::separator;
-use asm::Disassembled;
-use plan::Plan;
+use asm::DisassembleError;
+use plan::{EnginePlan, Plan};
 use std::env::Env;
 use text_bytes::until;
 
@@ -26,102 +23,74 @@ const LONGEST_SHEET: usize = 16_384;
 // More words than the chip has, so that the disassembler refuses an image that is too long.
 const MOST_WORDS: usize = 128;
 
-// Reads the n words of an image; false where one is malformed.
-fn read_words(bytes: &[u8], image: &mut [u16], n: usize) -> bool
-    requires { (n ≤ 128) × (n * 5 ≤ length bytes.now) × (n ≤ length image.old) }
-{
-    let mut k: usize = 0;
-    while k < n {
-        let at = k * 5;
-        let Hex::Word(w) = read_hex(&bytes[at..at + 4]) else {
-            return false;
-        };
-        if bytes[at + 4] != separator(k, n) {
-            return false;
-        }
-        image[k] = w;
-        k += 1;
-    }
-    true
-}
-
-fn written(rt: &impl Streams, path: &[u8], plan: Plan, image: &[u16]) -> Status {
-    let mut sheet = [0u8; LONGEST_SHEET];
-    let answer = disassembler::disassemble(plan, image, &mut sheet);
-    let number = refusals::written_report_of(answer).number as u32;
-    let message = match answer {
-        Disassembled::Length(n) => return made(rt, &sheet, n),
-        Disassembled::Refused(verdict) => of_verdict(Origin::Image, plan, image, verdict),
-        Disassembled::TooShort => refused(
-            say_one(templates::REFUSED_FILE, number),
-            say_only(templates::LONG_SHEET),
-        ),
-    };
-    tell_of(rt, ERROR, path, message)
-}
-
-fn misshapen(rt: &impl Streams, path: &[u8]) -> Status {
-    tell_of(
-        rt,
-        ERROR,
-        path,
-        line_of(Status::Failed, templates::NAMED, templates::NO_IMAGE),
-    )
-}
-
-fn of_bytes(rt: &impl Streams, path: &[u8], bytes: &[u8], plan: Plan) -> Status {
-    let mut image = [0u16; MOST_WORDS];
-    let n = bytes.len() / 5;
+// The words of an image, in lent memory, if none is malformed.
+fn read_words<'a>(bytes: &[u8], image: &'a mut [u16]) -> Option<&'a [u16]> {
     if bytes.len() % 5 != 0 {
-        return misshapen(rt, path);
+        return None;
     }
-    if n > MOST_WORDS {
-        return misshapen(rt, path);
+    let count = bytes.len() / 5;
+    let words = image.get_mut(..count)?;
+    for (k, (word, part)) in words.iter_mut().zip(bytes.chunks_exact(5)).enumerate() {
+        let (digits, end) = part.split_at(4);
+        *word = read_hex(digits)?;
+        if end != [separator(k, count)].as_slice() {
+            return None;
+        }
     }
-    if !read_words(bytes, &mut image, n) {
-        return misshapen(rt, path);
+    Some(words)
+}
+
+// Why no sheet is written: the plan or the image is refused, or the sheet is too long. Plan and image go side
+// by side, as the checker and the disassembler take them.
+fn why_not(plan: Plan, image: &[u16], why: DisassembleError) -> Message {
+    match why {
+        DisassembleError::Refused(error) => of_error(Origin::Image, plan, image, error),
+        DisassembleError::TooShort => {
+            let number = u32::from(refusals::written_report_of(Err(why)).number);
+            refused(
+                say_with(templates::REFUSED_FILE, &[number]),
+                say_only(templates::LONG_SHEET),
+            )
+        }
     }
-    written(rt, path, plan, &image[..n])
 }
 
 // The sheet of an image's file.
-fn of_file(rt: &impl Host, path: &[u8], kind: Kind, plan: Plan) -> Status {
+fn of_file(rt: &impl Host, name: Name, plan: Plan) -> Result<Status, Message> {
     let mut buf = [0u8; LARGE];
-    match files::read(rt, path, kind, &mut buf) {
-        File::Bytes(n) => of_bytes(rt, path, until(&buf, n), plan),
-        File::Unused(head, sentence) => {
-            tell_of(rt, ERROR, path, line_of(Status::Failed, head, sentence))
-        }
-    }
+    let mut memory = [0u16; MOST_WORDS];
+    let mut sheet = [0u8; LONGEST_SHEET];
+    let bytes = files::read(rt, name, &mut buf)?;
+    let image = read_words(bytes, &mut memory).ok_or(line_of(
+        Status::Failed,
+        templates::NAMED,
+        templates::NO_IMAGE,
+    ))?;
+    let n = disassembler::disassemble(plan, image, &mut sheet).map_err(|why| why_not(
+        plan, image, why,
+    ))?;
+    Ok(write_bytes(rt, Stream::Output, until(&sheet, n), Status::Done))
 }
 
 // Argument k as an engine's plan.
-fn take_plan(rt: &impl Env, source: Source, line: &[u8], k: usize) -> Planned {
+fn take_plan(rt: &impl Env, arguments: Arguments, k: usize) -> Option<EnginePlan> {
     let mut bytes = [0u8; 64];
-    let Argument::Bytes(n) = arguments::take(rt, source, line, k, &mut bytes) else {
-        return Planned::Malformed;
-    };
+    let n = arguments.take(rt, k, &mut bytes).ok()?;
     plans::read(until(&bytes, n))
 }
 
+fn take_plans(rt: &impl Env, arguments: Arguments) -> Option<Plan> {
+    Some(Plan {
+        engine1: take_plan(rt, arguments, 3)?,
+        engine2: take_plan(rt, arguments, 4)?,
+        engine3: take_plan(rt, arguments, 5)?,
+    })
+}
+
 // sheet IMAGE E1 E2 E3
-pub fn sheet(rt: &impl Host, source: Source, line: &[u8], path: &[u8], kind: Kind) -> Status {
-    let one = take_plan(rt, source, line, 3);
-    let two = take_plan(rt, source, line, 4);
-    let three = take_plan(rt, source, line, 5);
-    let Planned::Plan(engine1) = one else {
-        return misread(rt, source, templates::NO_PLAN);
-    };
-    let Planned::Plan(engine2) = two else {
-        return misread(rt, source, templates::NO_PLAN);
-    };
-    let Planned::Plan(engine3) = three else {
-        return misread(rt, source, templates::NO_PLAN);
-    };
-    let plan = Plan {
-        engine1,
-        engine2,
-        engine3,
-    };
-    of_file(rt, path, kind, plan)
+pub fn sheet(rt: &impl Host, arguments: Arguments, name: Name) -> Result<Status, Message> {
+    match take_plans(rt, arguments) {
+        Some(plan) => of_file(rt, name, plan),
+        None => Ok(misread(rt, arguments, templates::NO_PLAN)),
+    }
 }

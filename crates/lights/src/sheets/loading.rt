@@ -1,11 +1,12 @@
 // A program loaded into a new chip by register writes.
-ghost use Rattle.std.specs.Prelude.{◌≤◌};
-
-use crate::cli::output::stopped;
-use crate::cli::system::Streams;
+use super::checking::accepted;
+use crate::cli::names::Name;
+use crate::cli::status::Status;
+use crate::sentences::say::{Message, line_of};
 use crate::sentences::templates;
-use machine::{Chip, Outcome};
+use machine::Chip;
 use plan::{EnginePlan, Plan};
+use std::rt::Files;
 use word::WORDS;
 
 const CONTROL: u16 = 0x00;
@@ -24,96 +25,79 @@ const ENABLE: u8 = 64;
 // the three engines' modes in one byte: all to load
 const ALL_LOAD: u8 = 21;
 
-// A burst of the loading. No accepted program's is refused; if one is, that is said.
-fn burst(rt: &impl Streams, m: Chip, address: u16, bytes: &[u8]) -> Chip {
-    let written = chip::burst(m, address, bytes);
-    let outcome = written.outcome;
-    let Outcome::Success = outcome else {
-        stopped(rt, templates::LOADING_REFUSED);
-        return written.chip;
-    };
-    written.chip
+// A burst of the loading. No accepted program's is refused; if one is, the program stops and says so.
+fn burst(m: Chip, address: u16, bytes: &[u8]) -> Result<Chip, Message> {
+    chip::burst(m, address, bytes).map_err(|_| line_of(
+        Status::Lost,
+        templates::NOTHING,
+        templates::LOADING_REFUSED,
+    ))
 }
 
 // A burst of one byte.
-fn write(rt: &impl Streams, m: Chip, address: u16, byte: u8) -> Chip {
-    let bytes = [byte];
-    burst(rt, m, address, &bytes)
+fn write(m: Chip, address: u16, byte: u8) -> Result<Chip, Message> {
+    burst(m, address, &[byte])
 }
 
-// The bytes of a page's sixteen words, the high byte of each first.
-fn bytes_of(image: &[u16; WORDS], page: usize) -> [u8; 32]
-    requires { page ≤ 5 }
-{
+// A page's sixteen words, the high byte of each first.
+fn with_page(m: Chip, page: u8, words: &[u16]) -> Result<Chip, Message> {
     let mut bytes = [0u8; 32];
-    let mut k: usize = 0;
-    while k < 16 {
-        let word = image[page * 16 + k];
-        bytes[k * 2] = (word / 256 % 256) as u8;
-        bytes[k * 2 + 1] = (word % 256) as u8;
-        k += 1;
+    for (pair, word) in bytes.chunks_exact_mut(2).zip(words) {
+        pair.copy_from_slice(&word.to_be_bytes());
     }
-    bytes
+    burst(write(m, PAGE, page)?, MEMORY, &bytes)
 }
 
-fn with_memory(rt: &impl Streams, m: Chip, image: &[u16; WORDS]) -> Chip {
-    let mut after = m;
-    let mut page: u8 = 0;
-    while page < 6 {
-        let bytes = bytes_of(image, page as usize);
-        after = burst(rt, write(rt, after, PAGE, page), MEMORY, &bytes);
-        page += 1;
-    }
-    after
+fn with_memory(m: Chip, image: &[u16; WORDS]) -> Result<Chip, Message> {
+    (0..6u8)
+        .zip(image.chunks_exact(16))
+        .try_fold(m, |after, (page, words)| with_page(after, page, words))
 }
 
 // The first word of an engine. The addresses of an accepted program are below 256.
 fn start_of(q: EnginePlan) -> u8 {
-    match q {
-        EnginePlan::Unused => 0,
-        EnginePlan::CodeOnly { first, last: _ }
-        | EnginePlan::CodeAndTable {
-            first,
-            last: _,
-            top: _,
-            bottom: _,
-        } => (first.0 % 256) as u8,
-    }
+    q.code().map_or(0, |code| {
+        let [_, low] = code.first.0.to_be_bytes();
+        low
+    })
 }
 
 // 2 for an engine that is used: run as a mode, free as a run setting.
-fn two_if_used(q: EnginePlan) -> u8
-    ensures { result ≤ 2 }
-{
-    if let EnginePlan::Unused = q {
-        return 0;
+fn run_bits_of(q: EnginePlan) -> u8 {
+    match q {
+        EnginePlan::Unused => 0,
+        _ => 2,
     }
-    2
 }
 
 // The used engines' twos, in the places of the modes and of the run settings.
-fn used(plan: Plan) -> u8
-    ensures { result ≤ 42 }
-{
-    let one = plan.engine1;
-    let two = plan.engine2;
-    let three = plan.engine3;
-    two_if_used(one) * 16 + two_if_used(two) * 4 + two_if_used(three)
+fn run_bits(plan: Plan) -> u8 {
+    plan.engines()
+        .into_iter()
+        .fold(0, |bits, q| (bits << 2) | run_bits_of(q))
 }
 
-// The program in memory, its engines in run mode and held.
-pub fn loaded(rt: &impl Streams, plan: Plan, image: &[u16; WORDS]) -> Chip {
-    let one = plan.engine1;
-    let two = plan.engine2;
-    let three = plan.engine3;
-    let starts = [start_of(one), start_of(two), start_of(three)];
-    let enabled = write(rt, chip::new_chip(), CONTROL, ENABLE);
-    let loading = write(rt, write(rt, enabled, MODES, 0), MODES, ALL_LOAD);
-    let filled = burst(rt, with_memory(rt, loading, image), STARTS, &starts);
-    write(rt, write(rt, filled, MODES, 0), MODES, used(plan))
+// The program in a new chip's memory, its engines in run mode and held.
+fn loaded(plan: Plan, image: &[u16; WORDS]) -> Result<Chip, Message> {
+    let enabled = write(chip::new_chip(), CONTROL, ENABLE)?;
+    let loading = write(write(enabled, MODES, 0)?, MODES, ALL_LOAD)?;
+    let filled = burst(
+        with_memory(loading, image)?,
+        STARTS,
+        &plan.engines().map(start_of),
+    )?;
+    write(write(filled, MODES, 0)?, MODES, run_bits(plan))
 }
 
-// The used engines run free.
-pub fn freed(rt: &impl Streams, m: Chip, plan: Plan) -> Chip {
-    write(rt, m, CONTROL, ENABLE + used(plan))
+// The plan of a file's sheet, and a chip with its program, the engines held.
+pub fn held(rt: &(impl Files + Input), name: Name) -> Result<(Plan, Chip), Message> {
+    let mut image = [0u16; WORDS];
+    let plan = accepted(rt, name, &mut image)?;
+    Ok((plan, loaded(plan, &image)?))
+}
+
+// A chip with the program of a file's sheet, the used engines free.
+pub fn freed(rt: &(impl Files + Input), name: Name) -> Result<Chip, Message> {
+    let (plan, m) = held(rt, name)?;
+    write(m, CONTROL, ENABLE | run_bits(plan))
 }

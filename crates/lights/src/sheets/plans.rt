@@ -1,56 +1,33 @@
 // An engine's plan from an argument: -, first-last, or first-last/top-bottom.
-use crate::cli::numbers::{Number, read_number};
+use crate::cli::numbers::read_number;
 use plan::EnginePlan;
-use text_bytes::{from, part_at, same};
 use word::Address;
 
-#[derive(Clone, Copy)]
-pub enum Planned {
-    Plan(EnginePlan),
-    Malformed,
+// A number above 16 bits is read as the greatest of them; both are past the memory (refusal 11).
+const PAST_MEMORY: u32 = u16::MAX as u32;
+
+fn read_address(number: &[u8]) -> Option<Address> {
+    let n = read_number(number, PAST_MEMORY)?;
+    Some(Address(u16::try_from(n).unwrap_or(u16::MAX)))
 }
 
-// Two numbers with a dash between.
-#[derive(Clone, Copy)]
-enum Range {
-    From(Address, Address),
-    Malformed,
+// Two addresses with a dash between.
+fn read_range(argument: &[u8]) -> Option<(Address, Address)> {
+    let mut ends = argument.splitn(2, |b| *b == b'-');
+    Some((read_address(ends.next()?)?, read_address(ends.next()?)?))
 }
 
-// A number that 16 bits don't hold is past every memory, as the greatest of them is: 11.
-const PAST_MEMORY: u32 = 65_535;
-
-fn read_range(argument: &[u8]) -> Range {
-    let begin = part_at(argument, 0, b'-');
-    let one = read_number(begin, PAST_MEMORY);
-    let two = read_number(from(argument, begin.len() + 1), PAST_MEMORY);
-    let Number::Value(first) = one else {
-        return Range::Malformed;
-    };
-    let Number::Value(last) = two else {
-        return Range::Malformed;
-    };
-    Range::From(
-        Address((first % 65_536) as u16),
-        Address((last % 65_536) as u16),
-    )
-}
-
-pub fn read(argument: &[u8]) -> Planned {
-    if same(argument, b"-") {
-        return Planned::Plan(EnginePlan::Unused);
+pub fn read(argument: &[u8]) -> Option<EnginePlan> {
+    if argument == b"-".as_slice() {
+        return Some(EnginePlan::Unused);
     }
-    let code = part_at(argument, 0, b'/');
-    let Range::From(first, last) = read_range(code) else {
-        return Planned::Malformed;
+    let mut ranges = argument.splitn(2, |b| *b == b'/');
+    let (first, last) = read_range(ranges.next()?)?;
+    let Some(table) = ranges.next() else {
+        return Some(EnginePlan::CodeOnly { first, last });
     };
-    if code.len() == argument.len() {
-        return Planned::Plan(EnginePlan::CodeOnly { first, last });
-    }
-    let Range::From(top, bottom) = read_range(from(argument, code.len() + 1)) else {
-        return Planned::Malformed;
-    };
-    Planned::Plan(EnginePlan::CodeAndTable {
+    let (top, bottom) = read_range(table)?;
+    Some(EnginePlan::CodeAndTable {
         first,
         last,
         top,

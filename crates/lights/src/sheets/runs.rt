@@ -1,60 +1,59 @@
 // run, show and svg: so many beats of a sheet's program.
-use super::checking::accepted;
 use super::loading;
-use super::reading::Program;
 use crate::bench::state::put_chip;
 use crate::cli::files::LARGE;
-use crate::cli::help;
-use crate::cli::names::Kind;
-use crate::cli::output::{ERROR, made, tell_of};
+use crate::cli::names::Name;
+use crate::cli::output::made;
 use crate::cli::status::Status;
 use crate::cli::system::Host;
-use crate::pictures;
-use crate::sentences::templates::put_say;
+use crate::sentences::say::{Message, put_say};
 use crate::sentences::{calls, templates};
-use machine::{Chip, Outcome};
-use text_bytes::put_byte;
-use word::WORDS;
+use machine::{CallError, Chip, RunResult};
+use text_bytes::Writer;
+
+// So many beats of a chip, from one on. The path is that of its program's sheet.
+#[derive(Clone, Copy)]
+pub struct View<'a> {
+    pub path: &'a [u8],
+    pub chip: Chip,
+    pub from: u32,
+    pub beats: u32,
+}
 
 // What a run did, and the chip after it.
-fn put_run(out: &mut [u8], m: Chip, beats: u32) -> usize {
-    let r = chip::run(m, beats);
-    let words = r.words;
-    let after = r.chip;
-    let counts = calls::counts(r.beats, words, r.beats < beats);
-    let none: &[u8] = b"";
-    let end = put_say(out, 0, counts, none, none);
-    let head = put_byte(out, end, b'\n');
-    put_chip(out, head, after)
+pub fn put_run(w: &mut Writer, view: View) {
+    let r = chip::run(view.chip, view.beats).unwrap_or(RunResult {
+        chip: view.chip,
+        beats: 0,
+        words: [0; 3],
+    });
+    let counts = calls::counts(r.beats, r.words, r.beats < view.beats);
+    put_say(w, counts, b"", b"");
+    w.put_byte(b'\n');
+    put_chip(w, r.chip);
 }
 
-// What the command at this place shows of the beats.
-fn put_view(out: &mut [u8], place: usize, path: &[u8], m: Chip, from: u32, beats: u32) -> usize {
-    match place {
-        help::RUN => put_run(out, m, beats),
-        help::SHOW => pictures::show(out, m, from, beats),
-        _ => pictures::svg(out, path, m, from, beats),
+// What the command puts of the beats of a sheet's program, whose used engines run free.
+pub fn run<F: FnOnce(&mut Writer, View)>(
+    rt: &impl Host,
+    name: Name,
+    from: u32,
+    beats: u32,
+    put: F,
+) -> Result<Status, Message>
+    requires { F.IsAlwaysCallable put }
+{
+    if u64::from(from) + u64::from(beats) > u64::from(chip::MOST_BEATS) {
+        return Err(calls::of_error(templates::REFUSED_FILE, CallError::TooManyBeats));
     }
-}
-
-// The command at this place, on a sheet's program whose used engines run free.
-pub fn run(rt: &impl Host, place: usize, path: &[u8], kind: Kind, from: u32, beats: u32) -> Status {
-    let mut image = [0u16; WORDS];
-    if from as u64 + beats as u64 > chip::MOST_BEATS as u64 {
-        return tell_of(
-            rt,
-            ERROR,
-            path,
-            calls::of_outcome(templates::REFUSED_FILE, Outcome::TooManyBeats),
-        );
-    }
-    let found = accepted(rt, path, kind, &mut image);
-    let program = found.program;
-    let Program::Plan(plan) = program else {
-        return tell_of(rt, ERROR, path, found.message);
+    let view = View {
+        path: name.path,
+        chip: loading::freed(rt, name)?,
+        from,
+        beats,
     };
-    let m = loading::freed(rt, loading::loaded(rt, plan, &image), plan);
     let mut out = [0u8; LARGE];
-    let n = put_view(&mut out, place, path, m, from, beats);
-    made(rt, &out, n)
+    let mut w = Writer::new(&mut out);
+    put(&mut w, view);
+    Ok(made(rt, &w))
 }

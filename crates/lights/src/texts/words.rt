@@ -1,30 +1,25 @@
 // Words of memory in hexadecimal digits.
 ghost use Rattle.std.specs.Prelude.{◌<◌};
 
-use text_bytes::{put_byte, put_bytes};
+use text_bytes::Writer;
 
 const GLYPHS: [u8; 16] = *b"0123456789ABCDEF";
 
 fn glyph(n: u16) -> u8 {
-    GLYPHS[(n % 16) as usize]
+    GLYPHS[usize::from(n % 16)]
 }
 
-// Four hexadecimal digits.
-pub fn put_hex(out: &mut [u8], at: usize, n: u16) -> usize {
-    let digits = [glyph(n / 4096), glyph(n / 256), glyph(n / 16), glyph(n)];
-    put_bytes(out, at, &digits)
+// Four hexadecimal digits. By hand: a Writer takes bytes and is no fmt::Write.
+pub fn put_hex(w: &mut Writer, n: u16) {
+    w.put_bytes(&[glyph(n / 4096), glyph(n / 256), glyph(n / 16), glyph(n)]);
 }
 
 // Sixteen words a line.
-pub fn put_words(out: &mut [u8], at: usize, words: &[u16]) -> usize {
-    let mut next = at;
-    let mut i = 0;
-    while i < words.len() {
-        next = put_hex(out, next, words[i]);
-        next = put_byte(out, next, separator(i, words.len()));
-        i += 1;
+pub fn put_words(w: &mut Writer, words: &[u16]) {
+    for (i, &word) in words.iter().enumerate() {
+        put_hex(w, word);
+        w.put_byte(separator(i, words.len()));
     }
-    next
 }
 
 // The byte after word i of so many.
@@ -32,7 +27,8 @@ pub(crate) fn separator(i: usize, count: usize) -> u8
     requires { i < count }
 {
     if i % 16 == 15 || i + 1 == count {
-        return b'\n';
+        b'\n'
+    } else {
+        b' '
     }
-    b' '
 }

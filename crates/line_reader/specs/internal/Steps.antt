@@ -1,62 +1,80 @@
--- What the functions of a line's walk are lent, and what each gives. That together they are the line's reading is proved in proofs/.
-use Rattle.std.specs.Prelude.{ℕ, ◌+◌, ◌-◌, ◌≤◌, ◌<◌, min, cond, List, [], ◌∷◌, ◌≡◌, eqb, length, get_or, take, drop}
+-- What the functions of a line's walk answer. That together they are the line's reading is proved in proofs/.
+use Rattle.std.specs.Prelude.{ℕ, ◌+◌, true, false, cond, List, [], ◌∷◌, length, ltb, slice_set, Option, Some, None, Result, Ok, Err}
+use Rattle.std.specs.Iterator.{AlwaysYields}
+use denote.Ref.{Bor}
 use Rattle.text.specs.Bytes.{ascii, value_of}
 use Rattle.text.specs.Number.{read_number}
+use Rattle.text.specs.declared.ValueError.{ValueError}
+use Rattle.text.specs.declared.ValueError.TheVariants as value
 use Rattle.word.specs.Profile.{LP5523, ◌to◌}
+use Rattle.word.specs.Field.{upto}
+use Rattle.grammar.specs.declared.LineError.{LineError}
+use Rattle.grammar.specs.declared.LineError.TheVariants.{Malformed, UnknownOp, OutsideField}
 use Rattle.grammar.specs.declared.LineKind.{LineKind}
 use Rattle.grammar.specs.declared.LineKind.TheVariants.{Op, Plan, Row, Spare}
-use Rattle.grammar.specs.declared.LineRead.{LineRead}
-use Rattle.grammar.specs.declared.LineRead.TheVariants.{Read, Refused}
-use Rattle.grammar.specs.declared.Value.{Value}
-use Rattle.grammar.specs.declared.Value.TheVariants.{Number, Malformed, Outside}
-use Rattle.grammar.specs.Form.{Reading, held, read_keyword, read_form}
-use Rattle.grammar.specs.Grammar.{plan_form, read_op}
-use Rattle.grammar.specs.Values.{values_of}
-use Rattle.grammar.specs.internal.Tables.{op_count, name_count, form_count, names}
+use Rattle.grammar.specs.Form.{Pair, Reading, values, refused, held, read_keyword, all_pairs, at_end}
+use Rattle.grammar.specs.Grammar.{op_lines, op_names, op_form, plan_pairs}
+use Rattle.grammar.specs.internal.Tables.{error_of}
+use Rattle.line_reader.specs.declared.gathering.Gathered.{Gathered}
 
--- The lent tables: each name is the bytes from its place up to the next.
-pub record Lent (bytes places : List ℕ) : Type 0 where
-  pub counted : length places ≡ name_count + 1
-  pub ordered : (k : ℕ) → k < name_count → get_or places k 0 ≤ get_or places (k + 1) 0
-  pub within : (k : ℕ) → k < name_count → get_or places (k + 1) 0 ≤ length bytes
-  pub name_is : (k : ℕ) → k < name_count → get_or names k [] ≡ take (get_or places (k + 1) 0 - get_or places k 0) (drop (get_or places k 0) bytes)
+-- An iterator gives the parts of a line, each by reference, and then ends.
+pub record Gives {S : Type 0} (steps : S → Option (Bor (List ℕ)) → S → Type 0) (s : S) (ps : List (List ℕ)) : Type 0 where
+  pub all : AlwaysYields steps (λ p. p.now) s ps
 
--- The lower of two refusals, where the first is 0 if there is none.
-unfoldable pub lowest : ℕ → ℕ → ℕ
-lowest refusal k = cond (eqb refusal 0) k (min refusal k)
+-- A value, by its place among some.
+abbrev pub placed : Option ℕ → Result ℕ ValueError
+placed None = Err value.Outside
+placed (Some k) = Ok k
 
--- The number of a value, or another where there is none.
-unfoldable pub number_or : ℕ → Value → ℕ
-number_or d (Number n) = n
-number_or d Malformed = d
-number_or d Outside = d
+abbrev pub none_gathered : Gathered
+none_gathered = record { values = 0 ∷ 0 ∷ 0 ∷ 0 ∷ 0 ∷ 0 ∷ 0 ∷ []; count = 0; outside = false }
 
--- The refusal after a value.
-unfoldable pub refusal_with : ℕ → Value → ℕ
-refusal_with refusal (Number n) = refusal
-refusal_with refusal Malformed = lowest refusal 20
-refusal_with refusal Outside = lowest refusal 22
+unfoldable pub taken : Result ℕ ValueError → Result (Unit {0}) LineError
+taken (Ok n) = Ok tt
+taken (Err value.Malformed) = Err Malformed
+taken (Err value.Outside) = Ok tt
 
--- A line whose values are these, where neither they nor the rest are refused.
-unfoldable pub gathered : List ℕ → ℕ → LineRead → LineRead
-gathered ns refusal (Read v) = cond (eqb refusal 0) (Read (values_of ns)) (Refused refusal)
-gathered ns refusal (Refused k) = Refused (lowest refusal k)
+unfoldable pub with_value : Gathered → Result ℕ ValueError → Gathered
+with_value g (Ok n) = record { values = slice_set g.values g.count n; count = g.count + 1; outside = g.outside }
+with_value g (Err value.Malformed) = g
+with_value g (Err value.Outside) = record { values = g.values; count = g.count + 1; outside = true }
 
--- The parts of a plan line, or else of an op line; its first value, and the form after it, which is past the last where the op is unknown.
-unfoldable pub read_plan_or_op : LineKind → List (List ℕ) → Reading
-read_plan_or_op Op ps = read_op LP5523 ps
-read_plan_or_op (Plan i) ps = read_form (plan_form LP5523 i) ps
-read_plan_or_op Row ps = read_op LP5523 ps
-read_plan_or_op Spare ps = read_op LP5523 ps
+unfoldable pub all_of : Gathered → Result (List ℕ) LineError
+all_of g = cond g.outside (Err OutsideField) (Ok g.values)
 
-unfoldable pub first_of : LineKind → List ℕ → Value
-first_of Op p = read_keyword (take op_count (drop 0 names)) (value_of (ascii "op") p)
+-- Where a line ends, or why not.
+unfoldable pub ends : Reading → Result (Unit {0}) LineError
+ends (values ns) = Ok tt
+ends (refused k) = Err (error_of k)
+
+-- Why a line is refused after an unknown keyword.
+unfoldable pub unknown_with : LineError → List (List ℕ) → LineError
+unknown_with e ps = cond (all_pairs ps) e Malformed
+
+-- Where the pairs after a value are left out, this is the line's end.
+unfoldable pub end_after : Result ℕ ValueError → List (List ℕ) → Result (Unit {0}) LineError
+end_after (Ok n) ps = ends (at_end ps)
+end_after (Err value.Malformed) ps = ends (at_end ps)
+end_after (Err value.Outside) ps = Err (unknown_with OutsideField ps)
+
+-- The first value of a line, the form after it, and why a line without a form is refused.
+unfoldable pub first_of : LineKind → List ℕ → Result ℕ ValueError
+first_of Op p = read_keyword (op_names LP5523) (value_of (ascii "op") p)
 first_of (Plan i) p = held (i to i ∷ []) (read_number 65535 (value_of (ascii "engine") p))
-first_of Row p = read_keyword (take op_count (drop 0 names)) (value_of (ascii "op") p)
-first_of Spare p = read_keyword (take op_count (drop 0 names)) (value_of (ascii "op") p)
+first_of Row p = held (upto 65535) (read_number 65535 (value_of (ascii "row") p))
+first_of Spare p = held (upto 65535) (read_number 65535 (value_of (ascii "spare") p))
 
-unfoldable pub form_after : LineKind → Value → ℕ
-form_after (Plan i) v = op_count
-form_after Op v = number_or form_count v
-form_after Row v = number_or form_count v
-form_after Spare v = number_or form_count v
+abbrev pub form_of_op : Result ℕ ValueError → Option (List Pair)
+form_of_op (Ok o) = cond (ltb o (length (op_lines LP5523))) (Some (op_form LP5523 o)) None
+form_of_op (Err e) = None
+
+unfoldable pub form_after : LineKind → Result ℕ ValueError → Option (List Pair)
+form_after Op v = form_of_op v
+form_after (Plan i) v = Some (plan_pairs LP5523)
+form_after Row v = Some []
+form_after Spare v = Some []
+
+unfoldable pub refused_op : Result ℕ ValueError → List (List ℕ) → LineError
+refused_op (Ok o) ps = Malformed
+refused_op (Err value.Malformed) ps = Malformed
+refused_op (Err value.Outside) ps = unknown_with UnknownOp ps

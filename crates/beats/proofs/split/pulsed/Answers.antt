@@ -11,4 +11,4 @@ pub returns : goal.returns
 unfolding pulsed
 returns c =
     let a = c.args in
-    c.with_bit.ensures a.e.loops ∙ ap (λ (x : Engine). cond a.pulse (with_pending (bit_or x.pending 32) x) x) c.core_of.ensures
+    c.with_bit.ensures a.e.loops ∙ ap (λ (x : Engine). cond a.pulse (with_pending (bit_or x.pending 32) x) x) c.from.ensures

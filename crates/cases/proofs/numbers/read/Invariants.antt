@@ -1,8 +1,9 @@
-use Rattle.std.proofs.Common.{◌-◌, ◌≤◌, length}
+-- What is left is no longer than the text, and gets shorter.
+use Rattle.std.proofs.Common.{◌≤◌, length}
 use Rattle.cases.proofs.numbers.read.Given as goal
 
-abbrev pub invariant-loop-at : goal.invariant-loop-at
-invariant-loop-at g l = l.from ≤ l.at
+abbrev pub invariant-loop-base : goal.invariant-loop-base
+invariant-loop-base g l = length l.parts ≤ length l.text
 
-abbrev pub decreases-loop-at : goal.decreases-loop-at
-decreases-loop-at g l = length l.text - l.at
+abbrev pub decreases-loop-base : goal.decreases-loop-base
+decreases-loop-base g l = length l.parts

@@ -1,19 +1,22 @@
--- `checker::image::check_engines` meets its contract.
-use mathlib.Core.Path.{sym, ◌∙◌}
+-- `checker::image::check_engines` meets its contract: each step of the walk, and its end.
+use mathlib.Core.Path.{◌∙◌, sym}
+use native.Mathlib.Omega.{arith}
+use Rattle.std.proofs.lemmas.Result.{err_from_is_err_and}
 use Rattle.plan.specs.internal.Passes.{engines_verdict}
-use Rattle.plan.proofs.Laws.{stops, goes_on_lem}
+use Rattle.plan.proofs.Laws.{turns, scan_refused, scan_passed, scan_end}
 use Rattle.checker.proofs.image.check_engines.Goals as goal
 
-pub returns-then-not-is_accept : goal.returns-then-not-is_accept
+pub loop-k-init : goal.loop-k-init
 unfolding engines_verdict
-returns-then-not-is_accept c = stops _ c.check_engine-verdict1.ensures (sym c.is_accept.ensures ∙ c.if-not-is_accept.true)
+loop-k-init c = rw c.engines-engines.ensures (turns _)
 
-pub returns-then-not-is_accept-2 : goal.returns-then-not-is_accept-2
-unfolding engines_verdict
-returns-then-not-is_accept-2 c = goes_on_lem c.check_engine-verdict1.ensures (sym c.is_accept.ensures ∙ c.if-not-is_accept.false)
-    (stops _ c.check_engine-verdict2.ensures (sym c.is_accept-2.ensures ∙ c.if-not-is_accept-2.true))
+pub returns-in_err-check : goal.returns-in_err-check
+returns-in_err-check c =
+    let p = err_from_is_err_and c.from_residual.result c.from_residual.ensures.1 in
+    rw (p.1, p.2) (sym (c.loop-k.invariant ∙ scan_refused _ _ _ (omega arith) (sym c.check.ensures ∙ c.in_err-check.was)))
+
+pub loop-k-preserved : goal.loop-k-preserved
+loop-k-preserved c = c.loop-k.invariant ∙ scan_passed _ _ _ (omega arith) (sym c.check.ensures ∙ c.in_ok-check.was)
 
 pub returns : goal.returns
-unfolding engines_verdict
-returns c = goes_on_lem c.check_engine-verdict1.ensures (sym c.is_accept.ensures ∙ c.if-not-is_accept.false)
-    (goes_on_lem c.check_engine-verdict2.ensures (sym c.is_accept-2.ensures ∙ c.if-not-is_accept-2.false) c.check_engine.ensures)
+returns c = sym (c.loop-k.invariant ∙ scan_end _ _ _ (omega arith))

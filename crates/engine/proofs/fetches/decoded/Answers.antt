@@ -1,10 +1,17 @@
 -- `engine::fetches::decoded` meets its contract.
-use Rattle.std.proofs.Common.{arith, rules}
+use Rattle.std.proofs.Common.{◌≡◌, get_or, rules}
+use Rattle.word.specs.Profile.{LP5523}
+use Rattle.word.specs.Decode.{decode_of}
 use Rattle.word.specs.declared.Word.TheVariants.{Rst}
-use Rattle.engine.proofs.Loops.{below_more}
+use Rattle.engine.proofs.Loops.{map_is}
 use Rattle.engine.proofs.fetches.decoded.Goals as goal
 
-pub loop-i-preserved : goal.loop-i-preserved
-loop-i-preserved c =
-    let x = c.loop-i in
-    (omega arith, search rules, below_more _ Rst x.words x.i _ (omega (arith, x.invariant.1)) x.invariant.2 c.decode.ensures)
+pub returns : goal.returns
+returns c =
+    let m = c.args.memory.now in
+    let all = c.map.ensures.items in
+    map_is (decode_of LP5523) 0 Rst m c.map.result 96 all.long c.told-memory
+    (λ i h.
+    let k = all.at i 0 Rst h in
+    let e : get_or c.map.result i Rst ≡ decode_of LP5523 (get_or m i 0) = search (rules, k.2) in
+    e)

@@ -1,28 +1,18 @@
--- Each kind of line is read by a function of its own.
-use mathlib.Core.Path.{ap, ◌∙◌}
-use Rattle.std.proofs.Common.{ℕ, List}
-use Rattle.laws.proofs.Matches.{via}
-use Rattle.word.specs.Profile.{LP5523}
-use Rattle.grammar.specs.declared.LineKind.{LineKind}
-use Rattle.grammar.specs.declared.LineRead.{LineRead}
-use Rattle.grammar.specs.Grammar.{word_form, read_parts, read_line}
-use Rattle.grammar.specs.Values.{line_read_of}
-use Rattle.line_reader.proofs.Beginnings.{plan_or_op}
+-- The parts between a line's spaces are what is read.
+use borrow.Author.Tests.{tests}
+use lib.Dec.{eqb}
+use Rattle.std.proofs.Common.{ap, ◌∙◌, rules}
+use Rattle.std.proofs.lemmas.Iterator.Splits.{YieldsList-from_slice_split}
+use Rattle.text.specs.Bytes.{space}
+use Rattle.grammar.specs.Grammar.{read_line}
+use Rattle.grammar.specs.Values.{reading_of}
+use Rattle.line_reader.proofs.Lines.{line_answer}
+use Rattle.line_reader.proofs.Parts.{gives_split}
 use Rattle.line_reader.proofs.reading.read_line.Goals as goal
 
--- a line, read as one of a kind
-abbrev read_as : List ℕ → LineKind → LineRead
-read_as line k = line_read_of (read_line LP5523 k line)
-
-pub returns-in-Row : goal.returns-in-Row
-unfolding read_line read_parts word_form
-returns-in-Row c = via (read_as c.args.line.now) c.read_single.ensures c.in-Row.is
-
-pub returns-in-Spare : goal.returns-in-Spare
-unfolding read_line read_parts word_form
-returns-in-Spare c = via (read_as c.args.line.now) c.read_single-in-Spare.ensures c.in-Spare.is
-
-pub returns-in_default : goal.returns-in_default
+pub returns : goal.returns
 unfolding read_line
-returns-in_default c =
-    c.read_pairs.ensures ∙ ap line_read_of (plan_or_op c.args.kind _ c.in_default.not-Row c.in_default.not-Spare)
+returns c =
+    let line = c.args.line.now in
+    let e = c.read_parts.ensures _ (gives_split line (YieldsList-from_slice_split _ (λ b. eqb b space) _ c.split.ensures.rest c.split.ensures.done c.split.ensures.closure (λ x b q k. search (rules, tests)))) in
+    ap reading_of e ∙ line_answer c.args.kind line

@@ -3,8 +3,9 @@
 use mathlib.Core.Bool.{Bool}
 use mathlib.Core.Path.{◌≡◌, sym, ap, ◌∙◌}
 use native.Mathlib.Omega.{arith}
+use Rattle.std.proofs.Common.{rules}
 use lib.ListN.{length}
-use Rattle.text.proofs.Puts.{put_front}
+use Rattle.text_bytes.proofs.Writers.{measured, writes_front}
 use Rattle.word.specs.Profile.{LP5523}
 use Rattle.word.specs.declared.Word.{Word}
 use Rattle.word.specs.Classes.{is_undefined}
@@ -23,12 +24,13 @@ returns-then-is_undefined c = let a = c.args in
 
 pub returns-then-n-out : goal.returns-then-n-out
 returns-then-n-out c = let a = c.args in
-    let n = c.put_op_line-n.ensures.place in
-    let e = no_room a.code a.out.now (said c.is_undefined.ensures c.decode.ensures c.if-is_undefined.false) (omega (arith, n)) in
+    let n = measured c.new-measured.ensures c.put_op_line.ensures in
+    let e = no_room a.code a.out.now (said c.is_undefined.ensures c.decode.ensures c.if-is_undefined.false) (omega (arith, n, c.at-n.ensures)) in
     record { result_value = e.0; out_after = e.1 }
 
 pub returns : goal.returns
 returns c = let a = c.args in
-    let z : c.put_op_line-n.result ≡ length (op_line_of LP5523 a.code) = omega (arith, c.put_op_line-n.ensures.place) in
+    let n = measured c.new-measured.ensures c.put_op_line.ensures in
+    let z : c.at-n.result ≡ length (op_line_of LP5523 a.code) = omega (arith, n, c.at-n.ensures) in
     let e = with_room a.code a.out.now (said c.is_undefined.ensures c.decode.ensures c.if-is_undefined.false) (omega (arith, z)) in
-    record { result_value = ap wrote z ∙ e.0; out_after = put_front c.put_op_line.ensures (omega (arith, z)) ∙ e.1 }
+    record { result_value = ap wrote z ∙ e.0; out_after = search rules ∙ writes_front c.new.ensures c.put_op_line-2.ensures (omega (arith, z)) ∙ e.1 }

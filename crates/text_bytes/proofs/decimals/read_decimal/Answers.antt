@@ -1,26 +1,29 @@
 -- Past the tests on the first byte, the text is a number where all of it is digits.
-use mathlib.Core.Path.{sym, ◌∙◌}
-use Rattle.std.proofs.Common.{arith}
-use Rattle.text.proofs.Numbers.{number_empty, number_zero}
-use Rattle.text_bytes.proofs.Scan.{tested, broken, whole, read_malformed, read_outside, read_number_lem}
+use Rattle.std.proofs.Common.{sym, ◌∙◌, arith}
+use Rattle.text.proofs.Numbers.{number_empty, number_zero, number_digits}
+use Rattle.text_bytes.proofs.Digits.{no_digits, digits_only, read_malformed, read_outside, read_within}
 use Rattle.text_bytes.proofs.decimals.read_decimal.Goals as goal
 
-pub returns-then-v-eq0 : goal.returns-then-v-eq0
-returns-then-v-eq0 c = read_malformed _ _ (number_empty _ (omega arith))
+pub returns-in-empty : goal.returns-in-empty
+returns-in-empty c = read_malformed _ _ (number_empty _ (omega arith))
 
-pub returns-then-v-eq-DIGIT_ZERO : goal.returns-then-v-eq-DIGIT_ZERO
-returns-then-v-eq-DIGIT_ZERO c = read_malformed _ _ (number_zero _ (omega arith) (omega arith))
+pub returns-in-empty-2 : goal.returns-in-empty-2
+returns-in-empty-2 c = read_malformed _ _ (number_zero _ (omega arith) (omega arith))
 
-pub returns-in_default : goal.returns-in_default
-returns-in_default c =
-    read_malformed _ _ (tested c.args.v.now (λ e. omega arith) (λ l e. grind arith) ∙ broken _ (sym c.in_default.ensures))
+pub returns-in_default-number_of_digits : goal.returns-in_default-number_of_digits
+returns-in_default-number_of_digits c =
+    let v = c.args.v.now in
+    let d = no_digits v (sym c.number_of_digits.ensures ∙ c.in_default-number_of_digits.is) in
+    read_malformed v _ (number_digits v (λ e. omega arith) (λ l e. grind arith) ∙ d)
 
-pub returns-then-n-above : goal.returns-then-n-above
-returns-then-n-above c =
-    let w = whole _ c.in-Upto.n (sym c.in-Upto.ensures) in
-    read_outside _ _ c.in-Upto.n (tested c.args.v.now (λ e. omega arith) (λ l e. grind arith) ∙ w.0) w.1 (omega arith)
+pub returns-then-n-from : goal.returns-then-n-from
+returns-then-n-from c =
+    let v = c.args.v.now in
+    let d = digits_only v c.in-Some.n (sym c.number_of_digits.ensures ∙ c.in-Some.is) in
+    read_outside v _ c.in-Some.n (number_digits v (λ e. omega arith) (λ l e. grind arith) ∙ d.0) d.1 (omega arith)
 
 pub returns : goal.returns
 returns c =
-    let w = whole _ c.in-Upto.n (sym c.in-Upto.ensures) in
-    read_number_lem _ _ c.in-Upto.n (omega arith) (tested c.args.v.now (λ e. omega arith) (λ l e. grind arith) ∙ w.0) w.1 (omega arith)
+    let v = c.args.v.now in
+    let d = digits_only v c.in-Some.n (sym c.number_of_digits.ensures ∙ c.in-Some.is) in
+    read_within v _ c.in-Some.n (omega arith) (number_digits v (λ e. omega arith) (λ l e. grind arith) ∙ d.0) d.1 (omega arith)

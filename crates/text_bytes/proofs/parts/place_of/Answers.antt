@@ -1,45 +1,22 @@
--- `text_bytes::parts::place_of` meets its contract: the parts behind and the place among those to come make the place among all.
-use Prim.Native.Nat.{ℕ}
-use mathlib.Core.Bool.{true, false}
-use mathlib.Core.List.{List}
-use mathlib.Core.Path.{◌≡◌, sym, ap, ◌∙◌}
-use native.Mathlib.Omega.{arith}
-use Rattle.text.specs.Bytes.{same, space, part_at, after_part}
-use Rattle.text.proofs.Places.{place_from, from_start, from_past, from_found, from_next}
+-- The parts before the first that is this one are counted.
+use mathlib.Core.Bool.{not}
+use borrow.Author.Tests.{tests}
+use lib.Dec.{eqb}
+use Rattle.std.proofs.Common.{ap, ◌∙◌, rules}
+use Rattle.std.specs.Cmp.Lexicographic.{pointwise}
+use Rattle.std.proofs.lemmas.Iterator.Consumers.{count_from_yields_List}
+use Rattle.std.proofs.lemmas.Iterator.Search.{YieldsList-from_take_while}
+use Rattle.std.proofs.lemmas.Iterator.Splits.{YieldsList-from_slice_split}
+use Rattle.std.proofs.lemmas.List.Folds.{length-prefix_len}
+use Rattle.text.specs.Bytes.{space, place_of}
+use Rattle.text.proofs.Words.{split_parts, place_prefix}
 use Rattle.text_bytes.proofs.parts.place_of.Goals as goal
-
-pub loop-at-init : goal.loop-at-init
-loop-at-init c = let a = c.args in (omega arith, omega arith, omega (arith, from_start a.part.now space a.table.now))
-
-pub returns-then-same : goal.returns-then-same
-returns-then-same c =
-    let a = c.args in
-    let i = c.loop-at.invariant in
-    let e : same (part_at space c.loop-at.at a.table.now) a.part.now ≡ true =
-    ap (λ (p : List ℕ). same p a.part.now) (sym c.part_at.ensures) ∙ sym c.same.ensures ∙ c.if-same.true
-    in
-    let f = from_found a.part.now space c.loop-at.at a.table.now (omega arith) e in
-    omega (arith, i.2, f)
-
-pub loop-at-smaller : goal.loop-at-smaller
-loop-at-smaller c = omega (arith, c.after_part-at.ensures.lower_bound.0 (omega arith))
-
-pub loop-at-preserved : goal.loop-at-preserved
-loop-at-preserved c =
-    let a = c.args in
-    let i = c.loop-at.invariant in
-    let e : same (part_at space c.loop-at.at a.table.now) a.part.now ≡ false =
-    ap (λ (p : List ℕ). same p a.part.now) (sym c.part_at.ensures) ∙ sym c.same.ensures ∙ c.if-same.false
-    in
-    let f = from_next a.part.now space c.loop-at.at a.table.now (omega arith) e in
-    let n : place_from a.part.now space c.after_part-at.result a.table.now ≡ place_from a.part.now space (after_part space c.loop-at.at a.table.now) a.table.now =
-    ap (λ (at : ℕ). place_from a.part.now space at a.table.now) c.after_part-at.ensures.value
-    in
-    let b = c.after_part-at.ensures.lower_bound in
-    let up = b.0 (omega arith) in
-    (omega (arith, up, i.0), b.1, omega (arith, i.2, f, n))
 
 pub returns : goal.returns
 returns c =
-    let a = c.args in
-    omega (arith, c.loop-at.invariant.2, from_past a.part.now space c.loop-at.at a.table.now (omega arith))
+    let t = c.args.part.now in
+    count_from_yields_List _ _ c.count.ensures.ran
+    (YieldsList-from_take_while _ (λ p. not (pointwise eqb p t))
+    (YieldsList-from_slice_split _ (λ b. eqb b space) c.args.table.now (cc) (cc) (cc) (λ x b q k. search (rules, tests)))
+    c.take_while.ensures.closure c.take_while.ensures.done (λ x b q k. search (rules, tests)))
+    ∙ length-prefix_len (λ p. not (pointwise eqb p t)) _ ∙ place_prefix t _ ∙ ap (place_of t) (split_parts space c.args.table.now)

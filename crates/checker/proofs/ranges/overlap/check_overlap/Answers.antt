@@ -1,24 +1,22 @@
--- `checker::ranges::overlap::check_overlap` meets its contract.
-use mathlib.Core.Path.{refl, sym, ap, ◌∙◌}
-use mathlib.Core.Bool.{not}
+-- `checker::ranges::overlap::check_overlap` meets its contract: each step of the walk, and its end.
+use mathlib.Core.Path.{◌∙◌, sym}
+use native.Mathlib.Omega.{arith}
+use Rattle.std.proofs.lemmas.Result.{err_from_is_err_and}
 use Rattle.plan.specs.internal.Passes.{overlap_verdict}
-use Rattle.checker.proofs.Turns.{here, later}
+use Rattle.plan.proofs.Laws.{turns, scan_refused, scan_passed, scan_end}
 use Rattle.checker.proofs.ranges.overlap.check_overlap.Goals as goal
 
-pub returns-then-overlaps_some : goal.returns-then-overlaps_some
+pub loop-k-init : goal.loop-k-init
 unfolding overlap_verdict
-returns-then-overlaps_some c = here _ (ap not (sym c.overlaps_some.ensures ∙ c.if-overlaps_some.true))
+loop-k-init c = rw c.engines-engines.ensures (turns _)
 
-pub returns-then-overlaps_some-2 : goal.returns-then-overlaps_some-2
-unfolding overlap_verdict
-returns-then-overlaps_some-2 c = later _ (ap not (sym c.overlaps_some.ensures ∙ c.if-overlaps_some.false)) (here _ (ap not (sym c.overlaps_some-2.ensures ∙ c.if-overlaps_some-2.true)))
+pub returns-in_err-check_engine : goal.returns-in_err-check_engine
+returns-in_err-check_engine c =
+    let p = err_from_is_err_and c.from_residual.result c.from_residual.ensures.1 in
+    rw (p.1, p.2) (sym (c.loop-k.invariant ∙ scan_refused _ _ _ (omega arith) (sym c.check_engine.ensures ∙ c.in_err-check_engine.was)))
 
-pub returns-then-overlaps_some-3 : goal.returns-then-overlaps_some-3
-unfolding overlap_verdict
-returns-then-overlaps_some-3 c = later _ (ap not (sym c.overlaps_some.ensures ∙ c.if-overlaps_some.false))
-    (later _ (ap not (sym c.overlaps_some-2.ensures ∙ c.if-overlaps_some-2.false)) (here _ (ap not (sym c.overlaps_some-3.ensures ∙ c.if-overlaps_some-3.true))))
+pub loop-k-preserved : goal.loop-k-preserved
+loop-k-preserved c = c.loop-k.invariant ∙ scan_passed _ _ _ (omega arith) (sym c.check_engine.ensures ∙ c.in_ok-check_engine.was)
 
 pub returns : goal.returns
-unfolding overlap_verdict
-returns c = later _ (ap not (sym c.overlaps_some.ensures ∙ c.if-overlaps_some.false))
-    (later _ (ap not (sym c.overlaps_some-2.ensures ∙ c.if-overlaps_some-2.false)) (later _ (ap not (sym c.overlaps_some-3.ensures ∙ c.if-overlaps_some-3.false)) refl))
+returns c = sym (c.loop-k.invariant ∙ scan_end _ _ _ (omega arith))

@@ -1,23 +1,22 @@
--- `checker::ranges::valid::check_valid` meets its contract.
-use mathlib.Core.Path.{refl, sym, ◌∙◌}
+-- `checker::ranges::valid::check_valid` meets its contract: each step of the walk, and its end.
+use mathlib.Core.Path.{◌∙◌, sym}
+use native.Mathlib.Omega.{arith}
+use Rattle.std.proofs.lemmas.Result.{err_from_is_err_and}
 use Rattle.plan.specs.internal.Passes.{valid_verdict}
-use Rattle.checker.proofs.Turns.{here, later}
+use Rattle.plan.proofs.Laws.{turns, scan_refused, scan_passed, scan_end}
 use Rattle.checker.proofs.ranges.valid.check_valid.Goals as goal
 
-pub returns-then-not-valid_ranges : goal.returns-then-not-valid_ranges
+pub loop-k-init : goal.loop-k-init
 unfolding valid_verdict
-returns-then-not-valid_ranges c = here _ (sym c.valid_ranges.ensures ∙ c.if-not-valid_ranges.true)
+loop-k-init c = rw c.engines-engines.ensures (turns _)
 
-pub returns-then-not-valid_ranges-2 : goal.returns-then-not-valid_ranges-2
-unfolding valid_verdict
-returns-then-not-valid_ranges-2 c = later _ (sym c.valid_ranges.ensures ∙ c.if-not-valid_ranges.false) (here _ (sym c.valid_ranges-2.ensures ∙ c.if-not-valid_ranges-2.true))
+pub returns-in_err-check_engine : goal.returns-in_err-check_engine
+returns-in_err-check_engine c =
+    let p = err_from_is_err_and c.from_residual.result c.from_residual.ensures.1 in
+    rw (p.1, p.2) (sym (c.loop-k.invariant ∙ scan_refused _ _ _ (omega arith) (sym c.check_engine.ensures ∙ c.in_err-check_engine.was)))
 
-pub returns-then-not-valid_ranges-3 : goal.returns-then-not-valid_ranges-3
-unfolding valid_verdict
-returns-then-not-valid_ranges-3 c = later _ (sym c.valid_ranges.ensures ∙ c.if-not-valid_ranges.false)
-    (later _ (sym c.valid_ranges-2.ensures ∙ c.if-not-valid_ranges-2.false) (here _ (sym c.valid_ranges-3.ensures ∙ c.if-not-valid_ranges-3.true)))
+pub loop-k-preserved : goal.loop-k-preserved
+loop-k-preserved c = c.loop-k.invariant ∙ scan_passed _ _ _ (omega arith) (sym c.check_engine.ensures ∙ c.in_ok-check_engine.was)
 
 pub returns : goal.returns
-unfolding valid_verdict
-returns c = later _ (sym c.valid_ranges.ensures ∙ c.if-not-valid_ranges.false)
-    (later _ (sym c.valid_ranges-2.ensures ∙ c.if-not-valid_ranges-2.false) (later _ (sym c.valid_ranges-3.ensures ∙ c.if-not-valid_ranges-3.false) refl))
+returns c = sym (c.loop-k.invariant ∙ scan_end _ _ _ (omega arith))
