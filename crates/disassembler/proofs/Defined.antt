@@ -1,18 +1,17 @@
 -- 13 of an engine's words; and 9, 11, 12 and 13 together, as the writer looks at them.
-use Prim.Native.Nat.{ℕ, ◌+◌, ◌-◌}
+use Prim.Native.Nat.{ℕ}
 use mathlib.Core.Bool.{cond, not}
 use mathlib.Core.List.{List, [], ◌∷◌, ◌++◌, map}
 use mathlib.Core.Path.{◌≡◌, refl, sym, ap, ◌∙◌}
 use borrow.Author.Tests.{eq-eqb, ne_eqb}
 use lib.Dec.{eqb}
 use lib.ListN.{length}
-use Rattle.std.proofs.Common.{Ok, Err, Some}
+use Rattle.std.proofs.Common.{Ok, Err}
 use Rattle.std.specs.Result.{result_and}
 use Rattle.word.specs.Profile.{Profile, LP5523}
 use Rattle.word.specs.Steps.{address_at}
 use Rattle.word.specs.Classes.{is_undefined}
 use Rattle.word.specs.Decode.{word_at}
-use Rattle.plan.specs.declared.AddressRange.{AddressRange}
 use Rattle.plan.specs.declared.CheckError.{CheckError}
 use Rattle.plan.specs.declared.CheckError.TheVariants.{InvalidRange, CodeOverlapsTable, UndefinedWord, WrongLength}
 use Rattle.plan.specs.declared.EnginePlan.{EnginePlan}
@@ -21,7 +20,7 @@ use Rattle.plan.specs.Verdict.{Verdict}
 use Rattle.plan.specs.Ranges.{plan_at, code_of, code_addresses}
 use Rattle.plan.specs.Tests.{holds}
 use Rattle.plan.specs.Check.{engine_numbers, first_failing, check_ranges_of}
-use Rattle.plan.specs.internal.Passes.{required, scan, scan_some}
+use Rattle.plan.specs.internal.Passes.{required}
 use Rattle.plan.proofs.Order.{one_each}
 use Rattle.plan.proofs.Passes.{append, three, scanned_some}
 use Rattle.asm.specs.Writing.{undefined_at, writable_of}
@@ -30,11 +29,6 @@ use Rattle.disassembler.specs.internal.Walks.{engine_defined, plan_defined}
 module _ (P : Profile) (i : ℕ) (image : List ℕ) where
   abbrev pub word_defined : ℕ → Verdict
   word_defined a = required (not (is_undefined (word_at P image a))) (UndefinedWord i (address_at a))
-
-  pub engine_scan : (q : EnginePlan) {r : AddressRange} → code_of q ≡ Some r
-      → engine_defined P i q image ≡ scan word_defined r.first.0 (r.last.0 + 1 - r.first.0)
-  unfolding engine_defined
-  engine_scan q e = ap (scan_some word_defined) e
 
   engine : (p : Plan) (q : EnginePlan) → first_failing (holds P p image) (map (λ (a : ℕ). UndefinedWord i (address_at a)) (code_addresses q)) ≡ engine_defined P i q image
   unfolding first_failing engine_defined

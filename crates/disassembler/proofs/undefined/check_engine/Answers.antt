@@ -3,11 +3,7 @@ use mathlib.Core.Path.{◌∙◌, sym}
 use native.Mathlib.Omega.{arith}
 use Rattle.std.proofs.lemmas.Result.{err_from_is_err_and}
 use Rattle.plan.proofs.Laws.{scan_refused, scan_passed, scan_end}
-use Rattle.disassembler.proofs.Defined.{engine_scan}
 use Rattle.disassembler.proofs.undefined.check_engine.Goals as goal
-
-pub loop-at-init : goal.loop-at-init
-loop-at-init c = engine_scan _ _ _ _ (sym c.code.ensures ∙ c.in-Some.is)
 
 pub returns-in_err-check_word : goal.returns-in_err-check_word
 returns-in_err-check_word c =
