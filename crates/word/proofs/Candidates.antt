@@ -2,7 +2,7 @@
 use Prim.Native.Nat.{ℕ, ◌≤◌, ◌<◌}
 use mathlib.Core.Bool.{Bool, true, false, cond, ◌&&◌}
 use mathlib.Core.List.{List, [], ◌∷◌}
-use mathlib.Core.Path.{◌≡◌, refl}
+use mathlib.Core.Path.{◌≡◌, refl, sym}
 use native.Mathlib.Omega.{arith}
 use lib.Dec.{leb, eqb}
 use borrow.Author.Tests.{leb-true, lt-ltb, le-ltb, eqb-true}
@@ -75,3 +75,7 @@ past (r ∷ rs) a w t p =
 pub read_row : (w m : ℕ) → (before 0 (candidates w) m ≤ w) × (w < m) → reading w ≡ case_at (candidates w) m
 unfolding reading
 read_row w m h = chosen (candidates w) w m refl h
+
+-- the case of the row whose limit is m is what the list chooses for such a key
+pub returned : (rs : List Candidate) (w m : ℕ) → ascend 0 rs ≡ true → (before 0 rs m ≤ w) × (w < m) → case_at rs m ≡ choose w rs
+returned rs w m t h = sym (chosen rs w m t h)

@@ -14,9 +14,24 @@ use Rattle.word.specs.Table.{Operand, Encoding, line, none, fits, every, encode_
 use Rattle.word.specs.Theorems.{operands_in, Between, AllWithin}
 
 -- ---- a number and the first of some ranges
+-- no number lies in no ranges
+pub in_none : (n : ℕ) → inside [] n ≡ false
+unfolding inside
+in_none n = refl
+
+-- a number from a to b lies in ranges that begin with that one
+pub in_range_lem : (a b n : ℕ) (rs : List Range) → a ≤ n → n ≤ b → inside (a to b ∷ rs) n ≡ true
+unfolding inside
+in_range_lem a b n rs p q = simp (le-leb a n p, le-leb n b q)
+
 pub above_range : (a b n : ℕ) (rs : List Range) → b < n → inside (a to b ∷ rs) n ≡ inside rs n
 unfolding inside
 above_range a b n rs p = simp (lt-leb n b p, and_false (leb a n))
+
+-- of a number below the first range the others decide
+pub below_range : (a b n : ℕ) (rs : List Range) → n < a → inside (a to b ∷ rs) n ≡ inside rs n
+unfolding inside
+below_range a b n rs p = simp (lt-leb a n p)
 
 pub inside_upto : (m n : ℕ) → inside (upto m) n ≡ leb n m
 unfolding inside
@@ -25,9 +40,18 @@ inside_upto m n = simp (leb-zero n, or_false (leb n m))
 pub in_upto : (m n : ℕ) → n ≤ m → inside (upto m) n ≡ true
 in_upto m n p = inside_upto m n ∙ le-leb n m p
 
+-- a number above m is outside 0 to m
+pub out_upto : (m n : ℕ) → m < n → inside (upto m) n ≡ false
+out_upto m n p = inside_upto m n ∙ lt-leb n m p
+
 pub from_least : (a b n : ℕ) → a ≤ n → inside (a to b ∷ []) n ≡ inside (upto b) n
 unfolding inside
 from_least a b n p = simp (le-leb a n p, leb-zero n)
+
+-- a number below a is outside a to b
+pub under_least : (a b n : ℕ) → n < a → inside (a to b ∷ []) n ≡ false
+unfolding inside
+under_least a b n p = below_range a b n [] p
 
 -- ---- the bounds of a number that lies in some ranges
 either : {A : Type 0} (a b : Bool) → (a || b) ≡ true → (a ≡ true → A) → (b ≡ true → A) → A

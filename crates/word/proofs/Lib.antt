@@ -1,4 +1,5 @@
 pub mod Fields
+pub mod Bases
 pub mod Candidates
 pub mod Theorems
 pub mod Later
