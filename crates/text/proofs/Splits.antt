@@ -113,6 +113,24 @@ lacks_index d (x ∷ s) = go (eqb x d) (lacks_index d s)
 pub split_alone : (d : ℕ) (p : List ℕ) → lacks d p ≡ true → split d p ≡ p ∷ []
 split_alone d p h = split_none d p (omega (arith, eqb-true (index_of d p) (length p) (lacks_index d p ∙ h)))
 
+-- no part has the separator
+pub split_lacks : (d : ℕ) (s : List ℕ) → all_lack d (split d s) ≡ true
+unfolding split grow lacks
+split_lacks d [] = refl
+split_lacks d (x ∷ s) = go (eqb x d) refl (split d s) (split_lacks d s)
+  where
+    go : (t : Bool) → eqb x d ≡ t → (ps : List (List ℕ)) → all_lack d ps ≡ true → all_lack d (cond t ([] ∷ ps) (grow x ps)) ≡ true
+    go true e ps h = h
+    go false e [] h = rw e
+    go false e (p ∷ ps) h = rw e h
+
+-- nor has the part at a place
+pub part_lacks : (d at : ℕ) (s : List ℕ) → lacks d (part_at d at s) ≡ true
+part_lacks d at s =
+    let p = part_at d at s in
+    let r = after d (drop (at + length p) s) in
+    ((and-eq-true_iff (lacks d p) (all_lack d r)).0 (sym (ap (all_lack d) (split_at d at s)) ∙ split_lacks d (drop at s))).0
+
 -- parts joined by another byte lack what each lacks
 module _ (d e : ℕ) (differ : e ≡ d → ⊥) where
   pub lacks_joined : (ps : List (List ℕ)) → lacks d (joined e ps) ≡ all_lack d ps
