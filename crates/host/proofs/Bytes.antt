@@ -1,10 +1,10 @@
 -- A burst byte by byte.
-use Prim.Native.Nat.{ℕ, ◌+◌, ◌-◌, ◌≤◌}
+use Prim.Native.Nat.{ℕ, zero, suc, ◌+◌, ◌-◌, ◌≤◌}
 use mathlib.Core.Bool.{Bool, true, false, cond, false≢true, true≢false}
 use mathlib.Core.List.{List, [], ◌∷◌}
 use mathlib.Core.Path.{◌≡◌, refl, sym, ap, ◌∙◌}
 use native.Mathlib.Omega.{arith}
-use lib.ListN.{length}
+use lib.ListN.{length, drop}
 use Rattle.std.specs.Prelude.{Ok, Err}
 use Rattle.std.specs.Range.{range_inclusive_len}
 use Rattle.laws.proofs.Tests.{by_test}
@@ -43,6 +43,16 @@ empty (x ∷ xs) h = absurd (omega arith)
 -- 2, of the bytes ys from address s on: byte v at address a, then xs from address b on
 pub listed_at : (P : Profile) (a v : ℕ) {s b : ℕ} {ys xs : List ℕ} → a ≡ s → ys ≡ v ∷ xs → b ≡ s + 1 → is_unlisted (register_at P a) ≡ false → some_unlisted P (visited s ys) ≡ some_unlisted P (visited b xs)
 listed_at P a v p q r h = rw (r, sym p, q, h)
+
+-- past the end of the bytes nothing is left, so nothing is unlisted
+left_none : (a i : ℕ) (xs : List ℕ) → length xs ≤ i → visited a (drop i xs) ≡ []
+left_none a zero [] h = refl
+left_none a (suc i) [] h = refl
+left_none a zero (x ∷ xs) h = absurd (omega arith)
+left_none a (suc i) (x ∷ xs) h = left_none a i xs (omega arith)
+
+pub listed_end : (P : Profile) (a i : ℕ) (xs : List ℕ) → length xs ≤ i → some_unlisted P (visited a (drop i xs)) ≡ false
+listed_end P a i xs l = rw (left_none a i xs l)
 
 module _ (P : Profile) (b : Placed) (m : Chip) where
   abbrev says : Outcome
