@@ -9,6 +9,7 @@ pub mod Lacks
 pub mod Lines
 pub mod Theorems
 pub mod Tables
+pub mod Names
 pub mod Judged
 pub mod Low
 pub mod Spots
