@@ -56,10 +56,9 @@ impl<'a> Sheets<'a> {
 
     // Adds bytes to the sheet.
     fn part(&mut self, bytes: &[u8]) {
-        let start = self.end.min(self.sheet.len());
-        let mut w = Writer::new(&mut self.sheet[start..]);
+        let mut w = Writer::starting_at(self.sheet, self.end);
         w.put_bytes(bytes);
-        self.end = self.end.saturating_add(w.at());
+        self.end = w.at();
     }
 
     // Adds a line to the sheet.

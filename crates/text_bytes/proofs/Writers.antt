@@ -27,11 +27,11 @@ writes_length p = put_length p.put
 -- ---- a text that is written from the start
 
 -- measured, it has its length, or the greatest place where it is longer
-pub measured : {bytes : MutBor (List ℕ)} {a b : Writer} {s : List ℕ} → Begins bytes a → Writes a b s → b.at ≡ min (length s) last_place
+pub measured : {bytes : MutBor (List ℕ)} {a b : Writer} {s : List ℕ} → Begins bytes 0 a → Writes a b s → b.at ≡ min (length s) last_place
 measured g p = omega (arith, g.place, p.put.place)
 
 -- where there is room for it, it stands before what was after it
-pub writes_front : {bytes : MutBor (List ℕ)} {a b : Writer} {s : List ℕ} → Begins bytes a → Writes a b s → length s ≤ length bytes.now
+pub writes_front : {bytes : MutBor (List ℕ)} {a b : Writer} {s : List ℕ} → Begins bytes 0 a → Writes a b s → length s ≤ length bytes.now
     → b.out.now ≡ s ++ drop (length s) bytes.now
 writes_front {bytes} {a} {b} {s} g p h =
     put_front (subst (λ (d : List ℕ). Put d b.out.now s 0 b.at) g.is (subst (λ (n : ℕ). Put a.out.now b.out.now s n b.at) g.place p.put)) h

@@ -4,11 +4,11 @@ use Rattle.std.specs.Borrow.{MutBor}
 use Rattle.text.specs.Put.{Put}
 use Rattle.text_bytes.specs.declared.writer.Writer.{Writer}
 
--- A writer at the front of lent bytes.
-pub record Begins (bytes : MutBor (List ℕ)) (w : Writer) : Type 0 where
+-- A writer at a place of lent bytes.
+pub record Begins (bytes : MutBor (List ℕ)) (at : ℕ) (w : Writer) : Type 0 where
   pub is : w.out.now ≡ bytes.now
   pub lent : w.out.ghost_name ≡ bytes.ghost_name
-  pub place : w.at ≡ 0
+  pub place : w.at ≡ at
 
 -- What putting a text leaves: the same lent bytes with the text from the writer's place on, as far as they reach, and the place after it.
 pub record Writes (before after : Writer) (text : List ℕ) : Type 0 where

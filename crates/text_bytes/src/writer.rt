@@ -15,10 +15,18 @@ pub struct Writer<'a> {
 impl<'a> Writer<'a> {
     ghost use Rattle.text_bytes.specs.Writer.{Begins, Writes, written_of};
 
+    // At the front of the lent bytes.
     pub fn new(out: &'a mut [u8]) -> Writer<'a>
-        ensures { Begins out.entry result }
+        ensures { Begins out.entry 0 result }
     {
         Writer { out, at: 0 }
+    }
+
+    // At any place, also past the end of the lent bytes.
+    pub fn starting_at(out: &'a mut [u8], at: usize) -> Writer<'a>
+        ensures { Begins out.entry at result }
+    {
+        Writer { out, at }
     }
 
     // The place after all that was put; the greatest place there is where it is further.
