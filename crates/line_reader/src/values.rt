@@ -26,7 +26,12 @@ fn is_in(ranges: &[Range], n: u16) -> bool
 pub(super) fn read_number(ranges: &[Range], v: &[u8]) -> Result<u16, ValueError>
     ensures { result ≡ held (map range_of ranges.now) (read_number 65535 v.now) }
 {
-    let n = text_bytes::read_decimal(v, 65_535)? as u16;
+    let read = text_bytes::read_decimal(v, 65_535);
+    let Ok(n) = read else {
+        // the refusal
+        return read.and(Ok(0));
+    };
+    let n = n as u16;
     if is_in(ranges, n) {
         return Ok(n);
     }
