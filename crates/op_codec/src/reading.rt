@@ -17,6 +17,7 @@ fn code_of(v: Values) -> Result<u16, LineError>
 }
 
 // The code of the word that a line stands for. The line is without its LF.
+#[tactic(auto, using(crate::proofs::Line::of_a_row, crate::proofs::Line::code_read, op_lines::proofs::Answered::refused_code))]
 pub fn assemble_line(line: &[u8]) -> Result<u16, LineError>
     ensures { answer_of result ≡ assemble_line_of LP5523 line.now }
 {
