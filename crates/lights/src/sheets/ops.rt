@@ -13,12 +13,11 @@ pub fn decode(rt: &impl Streams, word: &[u8]) -> Status {
     let Some(code) = read_hex(word) else {
         return wrong(rt, templates::NO_WORD);
     };
-    if decoder::is_undefined(decoder::decode(code)) {
-        return tell_only(rt, templates::UNDEFINED);
-    }
     let mut out = [0u8; ANSWER];
-    let mut w = Writer::new(&mut out);
-    op_codec::put_op_line(&mut w, code);
+    let Ok(end) = op_codec::disassemble_word(code, &mut out) else {
+        return tell_only(rt, templates::UNDEFINED);
+    };
+    let mut w = Writer::starting_at(&mut out, end);
     w.put_byte(b'\n');
     made(rt, &w)
 }
