@@ -1,4 +1,6 @@
 // A program loaded into a new chip by register writes.
+ghost use Rattle.std.specs.Prelude.{◌≤◌};
+
 use super::checking::accepted;
 use crate::cli::names::Name;
 use crate::cli::status::Status;
@@ -63,7 +65,9 @@ fn start_of(q: EnginePlan) -> u8 {
 }
 
 // 2 for an engine that is used: run as a mode, free as a run setting.
-fn run_bits_of(q: EnginePlan) -> u8 {
+fn run_bits_of(q: EnginePlan) -> u8
+    ensures { result ≤ 2 }
+{
     match q {
         EnginePlan::Unused => 0,
         _ => 2,
@@ -71,10 +75,11 @@ fn run_bits_of(q: EnginePlan) -> u8 {
 }
 
 // The used engines' twos, in the places of the modes and of the run settings.
-fn run_bits(plan: Plan) -> u8 {
-    plan.engines()
-        .into_iter()
-        .fold(0, |bits, q| (bits << 2) | run_bits_of(q))
+fn run_bits(plan: Plan) -> u8
+    ensures { result ≤ 42 }
+{
+    // a sum, whose bound follows from those of its parts; a fold's would need an invariant
+    16 * run_bits_of(plan.engine1) + 4 * run_bits_of(plan.engine2) + run_bits_of(plan.engine3)
 }
 
 // The program in a new chip's memory, its engines in run mode and held.
