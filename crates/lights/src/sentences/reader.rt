@@ -75,7 +75,10 @@ pub fn of_sheet(text: &[u8], error: AssembleError) -> Message {
         AssembleError::WrongLength => {
             refused(head, say_with(templates::IMAGE_LENGTH, &[WORDS as u32]))
         }
-        AssembleError::Line { line, .. } => at_line(text, line, number),
+        AssembleError::Line {
+            line,
+            error: LineError::Malformed | LineError::UnknownOp | LineError::OutsideField,
+        } => at_line(text, line, number),
         AssembleError::WrongLineCount => refused(
             head,
             say_with(
