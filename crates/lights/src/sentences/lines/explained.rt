@@ -18,7 +18,9 @@ const CARRIAGE_RETURN: u8 = b'\r';
 const MOST: u32 = u16::MAX as u32;
 
 fn has_two_spaces(line: &[u8]) -> bool {
-    line.windows(2).any(|pair| pair == b"  ".as_slice())
+    line.iter()
+        .zip(line.iter().skip(1))
+        .any(|(a, b)| *a == SPACE && *b == SPACE)
 }
 
 // The greatest number that a kind allows in its first range; 0 for words.
