@@ -36,20 +36,22 @@ fn decode_all(rt: &(impl Streams + Env), arguments: Arguments, count: usize) -> 
     worst((2..count).map(|k| ops::decode(rt, arguments.beginning(rt, k, &mut bytes))))
 }
 
-// encode op=.. ..: the arguments as one op line.
+// encode op=.. ..: the arguments as one op line. Each is taken into its place in the line, behind a space.
 fn encode_all(rt: &(impl Streams + Env), arguments: Arguments, count: usize) -> Status {
-    let mut bytes = [0u8; LARGE];
-    let mut joined = [0u8; LARGE];
-    let mut w = Writer::new(&mut joined);
+    let mut line = [0u8; LARGE];
+    let mut end: usize = 0;
     for k in 2..count {
-        w.put_byte(b' ');
-        w.put_bytes(arguments.beginning(rt, k, &mut bytes));
+        if end >= LARGE {
+            return wrong(rt, templates::LONG_OP_LINE);
+        }
+        line[end] = b' ';
+        let Ok(length) = arguments.take(rt, k, &mut line[end + 1..]) else {
+            return wrong(rt, templates::LONG_OP_LINE);
+        };
+        end = end.saturating_add(1).saturating_add(length);
     }
-    match w.written() {
-        // without the space before the first argument
-        Some(line) => ops::encode(rt, from(line, 1)),
-        None => wrong(rt, templates::LONG_OP_LINE),
-    }
+    // without the space before the first argument
+    ops::encode(rt, from(until(&line, end), 1))
 }
 
 // Argument k as a number of beats; a picture begins with the first beat where there is none.

@@ -105,7 +105,10 @@ fn serve(rt: &impl Host, from: &mut impl Read, start: Lines, input: &mut Input) 
 pub fn run(rt: &impl Host) -> Status {
     let talk = commands::command_of(rt, Arguments::Program);
     match talk.lines {
-        Some(lines) => serve(rt, &mut rt.reader(), lines, &mut Input::new()),
+        Some(lines) => {
+            let mut input = Input::new();
+            serve(rt, &mut rt.reader(), lines, &mut input)
+        }
         None => talk.status,
     }
 }
