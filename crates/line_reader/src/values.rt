@@ -28,7 +28,7 @@ pub(super) fn read_number(ranges: &[Range], v: &[u8]) -> Result<u16, ValueError>
 {
     let read = text_bytes::read_decimal(v, 65_535);
     let Ok(n) = read else {
-        // the refusal
+        // the refusal that was read: `and` gives the other answer only for an Ok
         return read.and(Ok(0));
     };
     let n = n as u16;
