@@ -24,17 +24,23 @@ writes_is {a} {b} {s} {t} e p = subst (λ (x : List ℕ). Writes a b x) e p
 pub writes_length : {a b : Writer} {s : List ℕ} → Writes a b s → length b.out.now ≡ length a.out.now
 writes_length p = put_length p.put
 
+-- ---- a text that is written from a place on
+
+-- it is put at that place of the lent bytes
+pub writes_at : {bytes : MutBor (List ℕ)} {at : ℕ} {a b : Writer} {s : List ℕ} → Begins bytes at a → Writes a b s → Put bytes.now b.out.now s at b.at
+writes_at {bytes} {at} {a} {b} {s} g p =
+    subst (λ (d : List ℕ). Put d b.out.now s at b.at) g.is (subst (λ (n : ℕ). Put a.out.now b.out.now s n b.at) g.place p.put)
+
 -- ---- a text that is written from the start
 
 -- measured, it has its length, or the greatest place where it is longer
 pub measured : {bytes : MutBor (List ℕ)} {a b : Writer} {s : List ℕ} → Begins bytes 0 a → Writes a b s → b.at ≡ min (length s) last_place
-measured g p = omega (arith, g.place, p.put.place)
+measured g p = omega (arith, (writes_at g p).place)
 
 -- where there is room for it, it stands before what was after it
 pub writes_front : {bytes : MutBor (List ℕ)} {a b : Writer} {s : List ℕ} → Begins bytes 0 a → Writes a b s → length s ≤ length bytes.now
     → b.out.now ≡ s ++ drop (length s) bytes.now
-writes_front {bytes} {a} {b} {s} g p h =
-    put_front (subst (λ (d : List ℕ). Put d b.out.now s 0 b.at) g.is (subst (λ (n : ℕ). Put a.out.now b.out.now s n b.at) g.place p.put)) h
+writes_front g p h = put_front (writes_at g p) h
 
 -- ---- a text that is written part by part
 
