@@ -105,10 +105,7 @@ fn serve(rt: &impl Host, from: &mut impl Read, start: Lines, input: &mut Input) 
 pub fn run(rt: &impl Host) -> Status {
     let talk = commands::command_of(rt, Arguments::Program);
     match talk.lines {
-        Some(lines) => {
-            let mut input = Input::new();
-            serve(rt, &mut rt.reader(), lines, &mut input)
-        }
+        Some(lines) => serve(rt, &mut rt.reader(), lines, &mut Input::new()),
         None => talk.status,
     }
 }
